@@ -1,0 +1,45 @@
+//! Spans as rows, and the text and spans that a replacement brings.
+
+use crate::kinds::What;
+use crate::list::Items;
+
+/// An attached span. Places count UTF-16 units. `order` rises along the list of spans, and only its comparison means
+/// anything.
+#[derive(Clone, Copy, Debug, PartialEq, Eq)]
+pub struct SpanRow {
+    pub id: u32,
+    pub start: u32,
+    pub end: u32,
+    pub flags: u32,
+    pub order: u64,
+    pub what: What,
+}
+
+/// A span that a replacement brings, with its places in the incoming text as given.
+#[derive(Clone, Copy, Debug, PartialEq, Eq)]
+pub struct NewSpan {
+    pub id: u32,
+    pub start: u32,
+    pub end: u32,
+    pub flags: u32,
+    pub what: What,
+}
+
+/// What a replacement brings: UTF-16 units, spans over them, and whether the composing region covers them all.
+#[derive(Debug, Drop)]
+pub struct Incoming {
+    pub units: Items<u16>,
+    pub spans: Items<NewSpan>,
+    pub composing: bool,
+}
+
+/// Which spans a query asks for.
+#[derive(Clone, Copy, Debug, PartialEq, Eq)]
+pub enum Pick {
+    /// Every span.
+    All,
+    /// The seats of watchers.
+    Watches,
+    /// Margins, floats and faces.
+    Layout,
+}

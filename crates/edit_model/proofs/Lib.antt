@@ -1,0 +1,4 @@
+pub mod Tables
+pub mod Splices
+pub mod Newlines
+pub mod Readings

@@ -1,0 +1,11 @@
+pub mod State
+pub mod Replaced
+pub mod Verdicts
+pub mod Changed
+pub mod Log
+pub mod Printed
+pub mod Reading
+pub mod Lines
+pub mod Output
+pub mod Laws
+pub mod Examples

@@ -1,0 +1,22 @@
+-- The lines of a trace.
+use Rattle.std.specs.Prelude.{ℕ, ◌&&◌, ◌||◌, ◌==◌, Bool, List, [], ◌∷◌, length, nat_le, if◌then◌else◌}
+use Rattle.std.specs.List.{list_all}
+use Rattle.edit_base.specs.declared.bounds.TheConstants.Limits.{LINE_BYTES}
+
+-- a byte in front of the first line
+abbrev pub onto_first : ℕ → List (List ℕ) → List (List ℕ)
+onto_first byte [] = (byte ∷ []) ∷ []
+onto_first byte (line ∷ lines) = (byte ∷ line) ∷ lines
+
+-- the bytes up to each `\n`, and those behind the last one where there are any
+unfoldable pub trace_lines : List ℕ → List (List ℕ)
+trace_lines [] = []
+trace_lines (byte ∷ bytes) = if byte == 10 then [] ∷ trace_lines bytes else onto_first byte (trace_lines bytes)
+
+-- a space, a tab or `\r`
+abbrev pub is_blank_byte : ℕ → Bool
+is_blank_byte byte = byte == 32 || byte == 9 || byte == 13
+
+-- a line that is counted and skipped
+abbrev pub is_blank : List ℕ → Bool
+is_blank line = nat_le (length line) LINE_BYTES && list_all is_blank_byte line

@@ -1,0 +1,50 @@
+-- What is logged of an edit.
+use Rattle.std.specs.Prelude.{ℕ, length}
+use Rattle.edit_base.specs.declared.verdicts.Verdict.{Verdict}
+use Rattle.edit_base.specs.declared.verdicts.Verdict.TheVariants.{Done, NoChange, Ignored, Absent, Refused}
+use Rattle.edit_base.specs.declared.verdicts.Refusal.{Refusal}
+use Rattle.edit_base.specs.declared.verdicts.Refusal.TheVariants.{Depth, Budget, Reserved, Slot, Order, Beyond, Below, ParagraphStart, ParagraphEnd, TooLong, SpansFull, Flags, NotInBatch, NestingFull}
+use Rattle.edit_model.specs.declared.entries.LogEntry.{LogEntry}
+use Rattle.edit_model.specs.declared.entries.LogEntry.TheVariants as entry
+use Rattle.edit_model.specs.declared.entries.Logged.{Logged}
+use Rattle.edit_model.specs.declared.steps.Step.{Step}
+use Rattle.edit_model.specs.declared.steps.Step.TheVariants as step
+use Rattle.edit_model.specs.State.{State}
+use Rattle.edit_model.specs.Verdicts.{length_after}
+
+-- the length that would stand after an edit
+abbrev pub length_of : State → Step → ℕ
+length_of state (step.Replace start end incoming) = length_after state start end incoming
+
+-- the number that is printed behind a refusal's name, and 0 where none is
+abbrev pub refusal_number : State → Step → Refusal → ℕ
+refusal_number state asked Depth = 0
+refusal_number state asked Budget = 0
+refusal_number state asked Reserved = 0
+refusal_number state asked Slot = 0
+refusal_number state asked Order = length state.units
+refusal_number state asked Beyond = length state.units
+refusal_number state asked Below = length state.units
+refusal_number state asked ParagraphStart = 0
+refusal_number state asked ParagraphEnd = 0
+refusal_number state asked TooLong = length_of state asked
+refusal_number state asked SpansFull = 0
+refusal_number state asked Flags = 0
+refusal_number state asked NotInBatch = 0
+refusal_number state asked NestingFull = 0
+
+abbrev pub verdict_number : State → Step → Verdict → ℕ
+verdict_number state asked Done = 0
+verdict_number state asked NoChange = 0
+verdict_number state asked Ignored = 0
+verdict_number state asked Absent = 0
+verdict_number state asked (Refused refusal) = refusal_number state asked refusal
+
+-- an edit's verdict with its number
+abbrev pub logged : State → Step → Verdict → Logged
+logged state asked verdict = record { verdict = verdict; number = verdict_number state asked verdict }
+
+-- the entry of an edit with this verdict
+abbrev pub entry_of : State → ℕ → Step → Verdict → LogEntry
+entry_of state depth (step.Replace start end incoming) verdict =
+    entry.Replace depth start end (length incoming.units) (logged state (step.Replace start end incoming) verdict)

@@ -1,0 +1,105 @@
+-- The printed lines. In a line each space belongs to the word behind it.
+use Rattle.std.specs.Prelude.{ℕ, ◌/◌, ◌%◌, ◌+◌, ◌&&◌, ◌==◌, Bool, true, false, not, List, [], ◌∷◌, ◌++◌, length, nat_lt, nat_le, codes, decimal, if◌then◌else◌}
+use Rattle.std.specs.List.{flat_map}
+use Rattle.std.specs.Fmt.{signed_decimal}
+use Rattle.edit_base.specs.declared.verdicts.Verdict.{Verdict}
+use Rattle.edit_base.specs.declared.verdicts.Verdict.TheVariants.{Done, NoChange, Ignored, Absent, Refused}
+use Rattle.edit_base.specs.declared.verdicts.Refusal.{Refusal}
+use Rattle.edit_base.specs.declared.verdicts.Refusal.TheVariants.{Depth, Budget, Reserved, Slot, Order, Beyond, Below, ParagraphStart, ParagraphEnd, TooLong, SpansFull, Flags, NotInBatch, NestingFull}
+use Rattle.edit_model.specs.declared.entries.LogEntry.{LogEntry}
+use Rattle.edit_model.specs.declared.entries.LogEntry.TheVariants as entry
+use Rattle.edit_model.specs.declared.entries.Logged.{Logged}
+use Rattle.edit_model.specs.State.{State}
+
+-- a word behind a space
+abbrev pub spaced : List ℕ → List ℕ
+spaced word = 32 ∷ word
+
+abbrev pub line_end : List ℕ
+line_end = 10 ∷ []
+
+-- ---- units
+
+-- a hexadecimal digit, in lower case
+abbrev pub hex_digit : ℕ → ℕ
+hex_digit n = if nat_lt n 10 then 48 + n else 87 + n
+
+-- `\u` and four hexadecimal digits
+abbrev pub escaped : ℕ → List ℕ
+escaped unit = 92 ∷ 117 ∷ hex_digit (unit / 4096) ∷ hex_digit (unit / 256 % 16) ∷ hex_digit (unit / 16 % 16) ∷ hex_digit (unit % 16) ∷ []
+
+-- the unit stands for itself: printable ASCII but the quote and the backslash
+abbrev pub is_plain : ℕ → Bool
+is_plain unit = nat_le 32 unit && nat_le unit 126 && not (unit == 34) && not (unit == 92)
+
+abbrev pub unit_text : ℕ → List ℕ
+unit_text unit = if is_plain unit then unit ∷ [] else escaped unit
+
+-- `text`, how many units there are, and the units between quotes
+abbrev pub text_line : List ℕ → List ℕ
+text_line units = codes "text" ++ spaced (decimal (length units)) ++ spaced (34 ∷ flat_map unit_text units ++ 34 ∷ []) ++ line_end
+
+-- ---- verdicts
+
+abbrev pub refusal_name : Refusal → List ℕ
+refusal_name Depth = codes "depth"
+refusal_name Budget = codes "budget"
+refusal_name Reserved = codes "reserved"
+refusal_name Slot = codes "slot"
+refusal_name Order = codes "order"
+refusal_name Beyond = codes "beyond"
+refusal_name Below = codes "below"
+refusal_name ParagraphStart = codes "paragraph-start"
+refusal_name ParagraphEnd = codes "paragraph-end"
+refusal_name TooLong = codes "too-long"
+refusal_name SpansFull = codes "spans-full"
+refusal_name Flags = codes "flags"
+refusal_name NotInBatch = codes "not-in-batch"
+refusal_name NestingFull = codes "nesting-full"
+
+-- a number follows these names alone
+abbrev pub has_number : Refusal → Bool
+has_number Depth = false
+has_number Budget = false
+has_number Reserved = false
+has_number Slot = false
+has_number Order = true
+has_number Beyond = true
+has_number Below = true
+has_number ParagraphStart = false
+has_number ParagraphEnd = false
+has_number TooLong = true
+has_number SpansFull = true
+has_number Flags = false
+has_number NotInBatch = false
+has_number NestingFull = false
+
+abbrev pub refusal_text : Refusal → ℕ → List ℕ
+refusal_text refusal number =
+    spaced (refusal_name refusal) ++ (if has_number refusal then spaced (decimal number) else [])
+
+-- a verdict, behind a space
+abbrev pub verdict_text : Verdict → ℕ → List ℕ
+verdict_text Done number = spaced (codes "done")
+verdict_text NoChange number = spaced (codes "nochange")
+verdict_text Ignored number = spaced (codes "ignored")
+verdict_text Absent number = spaced (codes "absent")
+verdict_text (Refused refusal) number = spaced (codes "refused") ++ refusal_text refusal number
+
+abbrev pub logged_text : Logged → List ℕ
+logged_text it = verdict_text it.verdict it.number
+
+-- ---- lines
+
+-- the first line of the command on a trace line
+abbrev pub header_line : ℕ → List ℕ → List ℕ
+header_line number op = codes ">" ++ spaced (decimal number) ++ spaced op ++ line_end
+
+abbrev pub entry_line : LogEntry → List ℕ
+entry_line (entry.Replace depth start end units it) =
+    codes "edit" ++ spaced (decimal depth) ++ spaced (codes "replace") ++ spaced (signed_decimal start) ++ spaced (signed_decimal end)
+    ++ spaced (decimal units) ++ logged_text it ++ line_end
+
+-- the block behind the last command
+abbrev pub end_block : State → List ℕ
+end_block state = codes "end" ++ line_end ++ text_line state.units

@@ -1,0 +1,24 @@
+//! What is logged of a command.
+
+use edit_base::Verdict;
+
+/// A verdict, and the number that is printed behind its name: the present length behind `order`, `beyond` and `below`,
+/// the length that would stand behind `too-long`, and 0, unprinted, behind every other.
+#[derive(Clone, Copy, Debug, PartialEq, Eq)]
+pub struct Logged {
+    pub verdict: Verdict,
+    pub number: u32,
+}
+
+/// One entry for each edit. `depth` is 0 for a command's own edits.
+#[derive(Clone, Copy, Debug, PartialEq, Eq)]
+pub enum LogEntry {
+    /// A replacement with its places as asked; `units` counts the incoming units as given.
+    Replace {
+        depth: u32,
+        start: i64,
+        end: i64,
+        units: u32,
+        logged: Logged,
+    },
+}

@@ -1,0 +1,6 @@
+pub mod Appending
+pub mod Cutting
+pub mod Json
+pub mod Known
+pub mod LineRuns
+pub mod Traces

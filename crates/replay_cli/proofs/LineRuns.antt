@@ -1,0 +1,204 @@
+-- How the runs of lines join.
+use Rattle.std.proofs.Common.{◌≡◌, ℕ, ℤ, ◌+◌, codes, List, [], ◌∷◌, ◌++◌, length, take, Option, Some, None, IfSome, Bool, true, false, cond, refl, sym, ap, ◌∙◌, append_assoc, arith, ◌==◌}
+use Rattle.std.proofs.lemmas.Bool.Decides.{nat_tests}
+use Rattle.std.specs.List.{concat}
+use Rattle.std.proofs.lemmas.List.{append-nil}
+use Rattle.std.proofs.Math.Seq.{take-append-add}
+use Rattle.edit_base.specs.declared.rows.Incoming.{Incoming}
+use Rattle.edit_model.specs.State.{State}
+use Rattle.edit_model.specs.declared.commands.Command.{Command}
+use Rattle.edit_model.specs.declared.commands.Command.TheVariants as commands
+use Rattle.edit_model.specs.declared.entries.LogEntry.{LogEntry}
+use Rattle.edit_model.specs.declared.steps.Step.TheVariants as step
+use Rattle.edit_model.specs.Verdicts.{judged}
+use Rattle.edit_model.specs.Changed.{state_after}
+use Rattle.edit_model.specs.Log.{entry_of}
+use Rattle.edit_model.specs.Printed.{header_line, entry_line, end_block}
+use Rattle.edit_model.specs.Lines.{trace_lines, is_blank}
+use Rattle.edit_model.specs.Reading.{read_command, IsFitting}
+use Rattle.edit_model.specs.Output.{Line, blank, command, faulty, as_line, line_of, line_run, run_lines, Played, Ending, finished, faulty_line, behind, bytes_of, command_bytes, state_behind, log_of}
+use Rattle.edit_model.proofs.Readings.{fits-read_command}
+use Rattle.replay_io.specs.Outside.{with_more}
+use Rattle.replay_cli.specs.declared.player.LineEnd.{LineEnd}
+use Rattle.replay_cli.specs.declared.player.LineEnd.TheVariants.{Next, Stop}
+use Rattle.replay_cli.specs.declared.status.Status.{Status}
+use Rattle.replay_cli.specs.declared.status.Status.TheVariants as status
+use Rattle.replay_cli.specs.declared.status.TraceFault.TheVariants as fault
+use Rattle.replay_cli.specs.Runs.{Writes}
+use Rattle.replay_cli.specs.Steps.{behind_all, Reached, LineGives, CommandGives}
+use Rattle.replay_cli.proofs.Known.{with_more-none, with_more-twice, concat-append, take-before}
+
+-- ---- one line
+
+pub run-line : (number : ℕ) (state : State) (line : List ℕ) (lines : List (List ℕ)) (it : Line) → it ≡ line_of line
+    → run_lines number state (line ∷ lines) ≡ line_run number state it (λ next. run_lines (number + 1) next lines)
+unfolding run_lines
+run-line number state line lines it is = ap (λ l. line_run number state l (λ next. run_lines (number + 1) next lines)) (sym is)
+
+pub run-nothing : (number : ℕ) (state : State) → run_lines number state [] ≡ record { commands = []; last = end_block state; ending = finished }
+unfolding run_lines
+run-nothing number state = refl
+
+-- nothing was written yet
+pub reached-itself : (whole left : Played) (known : Option (List ℕ)) → whole ≡ left → Reached whole left known known
+reached-itself whole left known is = record { pieces = []; is = is; written = with_more-none known }
+
+-- ---- a command that was read
+
+fitting : (asked : Command) (found : Option Command) → IfSome found IsFitting → command asked ≡ as_line found → IsFitting asked
+fitting asked None fits is = absurd (cc)
+fitting asked (Some other) fits is = let e : asked ≡ other = cc in rw e fits
+
+fitting_unless_blank : (asked : Command) (test : Bool) (found : Option Command) → IfSome found IsFitting → command asked ≡ cond test blank (as_line found) → IsFitting asked
+fitting_unless_blank asked true found fits is = absurd (cc)
+fitting_unless_blank asked false found fits is = fitting asked found fits is
+
+pub fits-line_of : (asked : Command) (line : List ℕ) → command asked ≡ line_of line → IsFitting asked
+unfolding line_of
+fits-line_of asked line is = fitting_unless_blank asked (is_blank line) (read_command line) (fits-read_command line) is
+
+-- ---- what was written before
+
+bytes-behind_all : (pieces : List (List ℕ)) (left : Played) → concat pieces ++ bytes_of left ≡ bytes_of (behind_all pieces left)
+bytes-behind_all pieces left =
+    sym (append_assoc (concat pieces) (concat left.commands) left.last) ∙ ap (λ front. front ++ left.last) (sym (concat-append pieces left.commands))
+
+-- what is written behind the pieces is written behind all that was known before
+carried : (pieces : List (List ℕ)) (old now new : Option (List ℕ)) (more : List ℕ) → now ≡ with_more old (concat pieces) → new ≡ with_more now more
+    → new ≡ with_more old (concat pieces ++ more)
+carried pieces old now new more before after =
+    after ∙ ap (λ known. with_more known more) before ∙ with_more-twice old (concat pieces) more
+
+all_written : (whole left : Played) (old now new : Option (List ℕ)) → Reached whole left old now → new ≡ with_more now (bytes_of left) → new ≡ with_more old (bytes_of whole)
+all_written whole left old now new reached writes =
+    carried reached.pieces old now new (bytes_of left) reached.written writes
+    ∙ ap (with_more old) (bytes-behind_all reached.pieces left ∙ ap bytes_of (sym reached.is))
+
+some_written : (whole left : Played) (old now new : Option (List ℕ)) (count : ℕ) → Reached whole left old now → new ≡ with_more now (take count (bytes_of left))
+    → (n : ℕ) × (new ≡ with_more old (take n (bytes_of whole)))
+some_written whole left old now new count reached writes =
+    let pieces = reached.pieces in (
+      length (concat pieces) + count,
+      carried pieces old now new (take count (bytes_of left)) reached.written writes
+          ∙ ap (with_more old) (sym (take-append-add (concat pieces) (bytes_of left) count)
+          ∙ ap (take (length (concat pieces) + count)) (bytes-behind_all pieces left ∙ ap bytes_of (sym reached.is))),
+    )
+
+some_commands : (whole left : Played) (old now new : Option (List ℕ)) (count : ℕ) → Reached whole left old now → new ≡ with_more now (concat (take count left.commands))
+    → (n : ℕ) × (new ≡ with_more old (concat (take n whole.commands)))
+some_commands whole left old now new count reached writes =
+    let pieces = reached.pieces in (
+      length pieces + count,
+      carried pieces old now new (concat (take count left.commands)) reached.written writes
+          ∙ ap (with_more old) (sym (concat-append pieces (take count left.commands))
+          ∙ ap concat (sym (take-append-add pieces left.commands count) ∙ ap (λ played. take (length pieces + count) played.commands) (sym reached.is))),
+    )
+
+same_ending : (whole left : Played) (old now : Option (List ℕ)) (ending : Ending) → Reached whole left old now → left.ending ≡ ending → whole.ending ≡ ending
+same_ending whole left old now ending reached is = ap (λ played. played.ending) reached.is ∙ is
+
+pub writes_behind : (whole left : Played) (answer : Status) (old now new : Option (List ℕ)) → Reached whole left old now → Writes left answer now new → Writes whole answer old new
+writes_behind whole left status.Done old now new reached writes =
+    (same_ending whole left old now finished reached writes.0, all_written whole left old now new reached writes.1)
+writes_behind whole left status.Usage old now new reached writes = writes
+writes_behind whole left (status.TraceFault line kind) old now new reached writes =
+    (writes.0, same_ending whole left old now (faulty_line line) reached writes.1, all_written whole left old now new reached writes.2)
+writes_behind whole left status.ReadFault old now new reached writes = writes
+writes_behind whole left status.WriteFault old now new reached writes = some_written whole left old now new writes.0 reached writes.1
+writes_behind whole left status.NoMemory old now new reached writes = some_commands whole left old now new writes.0 reached writes.1
+writes_behind whole left status.TraceTooLong old now new reached writes = writes
+
+-- the runs join
+pub reached-twice : (whole left last : Played) (old now new : Option (List ℕ)) → Reached whole left old now → Reached left last now new → Reached whole last old new
+reached-twice whole left last old now new first second = record {
+  pieces = first.pieces ++ second.pieces;
+  is = first.is ∙ ap (behind_all first.pieces) second.is ∙ joined first.pieces second.pieces last;
+  written = carried first.pieces old now new (concat second.pieces) first.written second.written
+      ∙ ap (with_more old) (sym (concat-append first.pieces second.pieces));
+}
+  where
+    joined : (xs ys : List (List ℕ)) (played : Played) → behind_all xs (behind_all ys played) ≡ behind_all (xs ++ ys) played
+    joined xs ys played = ap (λ commands. record { commands = commands; last = played.last; ending = played.ending }) (sym (append_assoc xs ys played.commands))
+
+-- ---- a command that was written, or wasn't
+
+-- the run behind a command
+pub command-goes : (number : ℕ) (state : State) (line : List ℕ) (asked : Command) (after : State) (end : LineEnd) (old new : Option (List ℕ)) → command asked ≡ line_of line
+    → CommandGives (command_bytes number state asked) (state_behind state asked) after end old new → LineGives number state line after end old new
+command-goes number state line asked after Next old new is gives = λ lines. record {
+  pieces = command_bytes number state asked ∷ [];
+  is = run-line number state line lines (command asked) is
+      ∙ ap (λ next. behind (command_bytes number state asked) (run_lines (number + 1) next lines)) (sym gives.0);
+  written = gives.1 ∙ ap (with_more old) (sym (append-nil (command_bytes number state asked)));
+}
+command-goes number state line asked after (Stop status.Done) old new is gives = absurd gives
+command-goes number state line asked after (Stop status.Usage) old new is gives = absurd gives
+command-goes number state line asked after (Stop (status.TraceFault at kind)) old new is gives = absurd gives
+command-goes number state line asked after (Stop status.ReadFault) old new is gives = absurd gives
+command-goes number state line asked after (Stop status.WriteFault) old new is gives = λ lines.
+    let bytes = command_bytes number state asked in
+    let rest = run_lines (number + 1) (state_behind state asked) lines in
+    let t = take-before bytes (concat rest.commands ++ rest.last) gives.0 in
+    (t.0, gives.1 ∙ ap (with_more old) (t.1 ∙ ap (take t.0) (sym (append_assoc bytes (concat rest.commands) rest.last) ∙ ap bytes_of (sym (run-line number state line lines (command asked) is)))))
+command-goes number state line asked after (Stop status.NoMemory) old new is gives = λ lines. (0, gives ∙ with_more-none old)
+command-goes number state line asked after (Stop status.TraceTooLong) old new is gives = absurd gives
+
+-- ---- the end block
+
+pub end-written : (number : ℕ) (state : State) (old new : Option (List ℕ)) (bytes : List ℕ) → bytes ≡ end_block state → new ≡ with_more old bytes
+    → Writes (run_lines number state []) status.Done old new
+unfolding run_lines
+end-written number state old new bytes is written = (refl, written ∙ ap (with_more old) is)
+
+pub end-partly : (number : ℕ) (state : State) (old new : Option (List ℕ)) (bytes : List ℕ) (count : ℕ) → bytes ≡ end_block state → new ≡ with_more old (take count bytes)
+    → Writes (run_lines number state []) status.WriteFault old new
+unfolding run_lines
+end-partly number state old new bytes count is written = (count, written ∙ ap (λ b. with_more old (take count b)) is)
+
+pub nothing-written : (whole : Played) (old new : Option (List ℕ)) → new ≡ old → Writes whole status.NoMemory old new
+nothing-written whole old new same = (0, same ∙ with_more-none old)
+
+-- ---- lines without output
+
+pub blank-goes : (number : ℕ) (state : State) (line : List ℕ) (known : Option (List ℕ)) → blank ≡ line_of line → LineGives number state line state Next known known
+blank-goes number state line known is = λ lines.
+    reached-itself (run_lines number state (line ∷ lines)) (run_lines (number + 1) state lines) known (run-line number state line lines blank is)
+
+pub faulty-stops : (number : ℕ) (state : State) (line : List ℕ) (known : Option (List ℕ)) → faulty ≡ line_of line
+    → LineGives number state line state (Stop (status.TraceFault number fault.Unbuilt)) known known
+faulty-stops number state line known is = λ lines.
+    let e = run-line number state line lines faulty is in
+    (refl, ap (λ played. played.ending) e, with_more-none known ∙ ap (λ played. with_more known (bytes_of played)) (sym e))
+
+-- ---- a replacement
+
+pub replaced-bytes : (number : ℕ) (state : State) (start end : ℤ) (incoming : Incoming) (before between after : List ℕ) (entry : LogEntry)
+    → between ≡ before ++ header_line number (codes "replace") → after ≡ between ++ entry_line entry
+    → entry ≡ entry_of state 0 (step.Replace start end incoming) (judged state 0 (step.Replace start end incoming))
+    → after ≡ before ++ command_bytes number state (commands.Replace start end incoming)
+unfolding log_of
+replaced-bytes number state start end incoming before between after entry header line is =
+    let bytes = entry_line (entry_of state 0 (step.Replace start end incoming) (judged state 0 (step.Replace start end incoming))) in
+    line ∙ ap (λ front. front ++ entry_line entry) header ∙ ap (λ e. (before ++ header_line number (codes "replace")) ++ entry_line e) is
+    ∙ append_assoc before (header_line number (codes "replace")) bytes
+    ∙ ap (λ back. before ++ (header_line number (codes "replace") ++ back)) (sym (append-nil bytes))
+
+pub replaced-state : (state after : State) (start end : ℤ) (incoming : Incoming) → after ≡ state_after state 0 (step.Replace start end incoming)
+    → after ≡ state_behind state (commands.Replace start end incoming)
+unfolding state_behind
+replaced-state state after start end incoming is = is
+
+-- ---- the end of the trace
+
+nothing_left : (rest : List ℕ) → true ≡ (length rest == 0) → rest ≡ []
+nothing_left [] is = refl
+nothing_left (byte ∷ bytes) is = absurd (grind (arith, nat_tests))
+
+no_lines : trace_lines [] ≡ []
+unfolding trace_lines
+no_lines = refl
+
+pub reached-end : (whole : Played) (number : ℕ) (state : State) (rest : List ℕ) (old now : Option (List ℕ)) → true ≡ (length rest == 0)
+    → Reached whole (run_lines number state (trace_lines rest)) old now → Reached whole (run_lines number state []) old now
+reached-end whole number state rest old now is reached =
+    let e = ap trace_lines (nothing_left rest is) ∙ no_lines in rw e at reached

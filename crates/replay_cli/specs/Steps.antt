@@ -1,0 +1,38 @@
+-- One line of a run.
+use Rattle.std.specs.Prelude.{ℕ, ◌≡◌, ◌+◌, ◌++◌, List, ◌∷◌, take, Option}
+use Rattle.std.specs.List.{concat}
+use Rattle.edit_model.specs.State.{State}
+use Rattle.edit_model.specs.Output.{Played, run_lines}
+use Rattle.replay_io.specs.Outside.{with_more}
+use Rattle.replay_cli.specs.declared.player.LineEnd.{LineEnd}
+use Rattle.replay_cli.specs.declared.player.LineEnd.TheVariants.{Next, Stop}
+use Rattle.replay_cli.specs.declared.status.Status.TheVariants as status
+use Rattle.replay_cli.specs.Runs.{Writes}
+
+-- the bytes of several commands in front
+abbrev pub behind_all : List (List ℕ) → Played → Played
+behind_all pieces played = record { commands = pieces ++ played.commands; last = played.last; ending = played.ending }
+
+-- these pieces were written, and the lines that are left give the rest of the whole run
+pub record Reached (whole left : Played) (old now : Option (List ℕ)) : Type 0 where
+  pub pieces : List (List ℕ)
+  pub is : whole ≡ behind_all pieces left
+  pub written : now ≡ with_more old (concat pieces)
+
+-- whatever lines follow a line: the run goes on behind it, or has ended there
+abbrev pub LineGives : ℕ → State → List ℕ → State → LineEnd → Option (List ℕ) → Option (List ℕ) → Type 0
+LineGives number state line after Next old new = (lines : List (List ℕ)) →
+    Reached (run_lines number state (line ∷ lines)) (run_lines (number + 1) after lines) old new
+LineGives number state line after (Stop answer) old new = (lines : List (List ℕ)) →
+    Writes (run_lines number state (line ∷ lines)) answer old new
+
+-- a command's bytes were written, and the text is the one behind it, or the run has ended with a prefix of them
+abbrev pub CommandGives : List ℕ → State → State → LineEnd → Option (List ℕ) → Option (List ℕ) → Type 0
+CommandGives bytes behind after Next old new = (after ≡ behind) × (new ≡ with_more old bytes)
+CommandGives bytes behind after (Stop status.Done) old new = ⊥
+CommandGives bytes behind after (Stop status.Usage) old new = ⊥
+CommandGives bytes behind after (Stop (status.TraceFault line kind)) old new = ⊥
+CommandGives bytes behind after (Stop status.ReadFault) old new = ⊥
+CommandGives bytes behind after (Stop status.WriteFault) old new = (count : ℕ) × (new ≡ with_more old (take count bytes))
+CommandGives bytes behind after (Stop status.NoMemory) old new = new ≡ old
+CommandGives bytes behind after (Stop status.TraceTooLong) old new = ⊥

@@ -1,0 +1,312 @@
+//! The printed lines, each appended to the bytes that a caller collects.
+
+#![tactic(auto, using(crate::proofs::Appending::appending))]
+
+ghost use Rattle.std.specs.Prelude.{ℕ, ◌≡◌, List, ◌<◌, ◌++◌, OnOk, OnErr, codes, decimal};
+ghost use Rattle.std.specs.List.{flat_map};
+ghost use Rattle.std.specs.Fmt.{signed_decimal};
+ghost use Rattle.edit_model.specs.Printed.{spaced, line_end, hex_digit, escaped, unit_text, text_line, refusal_name, has_number, refusal_text, logged_text, header_line, entry_line};
+ghost use Rattle.replay_cli.specs.Appended.{Extends};
+
+use edit_base::{NoMemory, Refusal, Verdict};
+use edit_model::{LogEntry, Logged};
+use itoa::Buffer;
+
+/// Appends the first line of the command on a trace line: the line's number, and the operation's name. Without memory
+/// a part of the line may stand in `out`.
+pub fn print_header(number: u32, op: &str, out: &mut Vec<u8>) -> Result<(), NoMemory>
+    ensures ok { OnOk result (out.new.items ≡ out.old.items ++ header_line number op.now) }
+    ensures err { OnErr result ((more : List ℕ) × (out.new.items ≡ out.old.items ++ more)) }
+{
+    push(">", out)?;
+    push_number(number, out)?;
+    push_word(op, out)?;
+    push("\n", out)
+}
+
+/// Appends the line of one entry of the log. Without memory a part of the line may stand in `out`.
+pub fn print_entry(entry: &LogEntry, out: &mut Vec<u8>) -> Result<(), NoMemory>
+    ensures ok { OnOk result (out.new.items ≡ out.old.items ++ entry_line entry.now) }
+    ensures err { OnErr result ((more : List ℕ) × (out.new.items ≡ out.old.items ++ more)) }
+{
+    match entry {
+        LogEntry::Replace {
+            depth,
+            start,
+            end,
+            units,
+            logged,
+        } => { push_replace(*depth, *start, *end, *units, logged, out) }
+    }
+}
+
+/// Appends the line of a text that stands in two slices: how many units it has, and the units between quotes. Without
+/// memory a part of the line may stand in `out`.
+pub fn print_units(left: &[u16], right: &[u16], out: &mut Vec<u8>) -> Result<(), NoMemory>
+    ensures ok { OnOk result (out.new.items ≡ out.old.items ++ text_line (left.now ++ right.now)) }
+    ensures err { OnErr result ((more : List ℕ) × (out.new.items ≡ out.old.items ++ more)) }
+{
+    push("text", out)?;
+    push_count(left.len() + right.len(), out)?;
+    push_quoted(left, right, out)?;
+    push("\n", out)
+}
+
+fn push(text: &str, out: &mut Vec<u8>) -> Result<(), NoMemory>
+    ensures ok { OnOk result (out.new.items ≡ out.old.items ++ text.now) }
+    ensures err { OnErr result (Extends out.old.items out.new.items) }
+{
+    out.extend_from_slice(text.as_bytes())?;
+    Ok(())
+}
+
+// ---- words, each behind a space
+
+fn push_word(word: &str, out: &mut Vec<u8>) -> Result<(), NoMemory>
+    ensures ok { OnOk result (out.new.items ≡ out.old.items ++ spaced word.now) }
+    ensures err { OnErr result (Extends out.old.items out.new.items) }
+{
+    push(" ", out)?;
+    push(word, out)
+}
+
+fn push_number(number: u32, out: &mut Vec<u8>) -> Result<(), NoMemory>
+    ensures ok { OnOk result (out.new.items ≡ out.old.items ++ spaced (decimal number)) }
+    ensures err { OnErr result (Extends out.old.items out.new.items) }
+{
+    push_word(Buffer::new().format(number), out)
+}
+
+fn push_count(count: usize, out: &mut Vec<u8>) -> Result<(), NoMemory>
+    ensures ok { OnOk result (out.new.items ≡ out.old.items ++ spaced (decimal count)) }
+    ensures err { OnErr result (Extends out.old.items out.new.items) }
+{
+    push_word(Buffer::new().format(count), out)
+}
+
+fn push_signed(number: i64, out: &mut Vec<u8>) -> Result<(), NoMemory>
+    ensures ok { OnOk result (out.new.items ≡ out.old.items ++ spaced (signed_decimal number)) }
+    ensures err { OnErr result (Extends out.old.items out.new.items) }
+{
+    push_word(Buffer::new().format(number), out)
+}
+
+// ---- edits and verdicts
+
+fn push_replace(
+    depth: u32,
+    start: i64,
+    end: i64,
+    units: u32,
+    logged: &Logged,
+    out: &mut Vec<u8>,
+) -> Result<(), NoMemory>
+    ensures ok { OnOk result (out.new.items
+        ≡ out.old.items ++ entry_line (LogEntry.Replace depth start end units logged.now)) }
+    ensures err { OnErr result (Extends out.old.items out.new.items) }
+{
+    push_edit(depth, "replace", out)?;
+    push_places(start, end, out)?;
+    push_number(units, out)?;
+    push_ending(logged, out)
+}
+
+fn push_edit(depth: u32, name: &str, out: &mut Vec<u8>) -> Result<(), NoMemory>
+    ensures ok { OnOk result (out.new.items
+        ≡ out.old.items ++ codes "edit" ++ spaced (decimal depth) ++ spaced name.now) }
+    ensures err { OnErr result (Extends out.old.items out.new.items) }
+{
+    push("edit", out)?;
+    push_number(depth, out)?;
+    push_word(name, out)
+}
+
+fn push_places(start: i64, end: i64, out: &mut Vec<u8>) -> Result<(), NoMemory>
+    ensures ok { OnOk result (out.new.items
+        ≡ out.old.items ++ spaced (signed_decimal start) ++ spaced (signed_decimal end)) }
+    ensures err { OnErr result (Extends out.old.items out.new.items) }
+{
+    push_signed(start, out)?;
+    push_signed(end, out)
+}
+
+fn push_ending(logged: &Logged, out: &mut Vec<u8>) -> Result<(), NoMemory>
+    ensures ok { OnOk result (out.new.items ≡ out.old.items ++ logged_text logged.now ++ line_end) }
+    ensures err { OnErr result (Extends out.old.items out.new.items) }
+{
+    push_logged(logged, out)?;
+    push("\n", out)
+}
+
+fn push_logged(logged: &Logged, out: &mut Vec<u8>) -> Result<(), NoMemory>
+    ensures ok { OnOk result (out.new.items ≡ out.old.items ++ logged_text logged.now) }
+    ensures err { OnErr result (Extends out.old.items out.new.items) }
+{
+    match logged.verdict {
+        Verdict::Done => push_word("done", out),
+        Verdict::NoChange => push_word("nochange", out),
+        Verdict::Ignored => push_word("ignored", out),
+        Verdict::Absent => push_word("absent", out),
+        Verdict::Refused(refusal) => {
+            push_word("refused", out)?;
+            push_refusal(refusal, logged.number, out)
+        }
+    }
+}
+
+fn push_refusal(refusal: Refusal, number: u32, out: &mut Vec<u8>) -> Result<(), NoMemory>
+    ensures ok { OnOk result (out.new.items ≡ out.old.items ++ refusal_text refusal number) }
+    ensures err { OnErr result (Extends out.old.items out.new.items) }
+{
+    push_word(name_of(refusal), out)?;
+    if is_numbered(refusal) {
+        push_number(number, out)?;
+    }
+    Ok(())
+}
+
+fn name_of(refusal: Refusal) -> &'static str
+    ensures { result.now ≡ refusal_name refusal }
+{
+    match refusal {
+        Refusal::Depth => "depth",
+        Refusal::Budget => "budget",
+        Refusal::Reserved => "reserved",
+        Refusal::Slot => "slot",
+        Refusal::Order => "order",
+        Refusal::Beyond => "beyond",
+        Refusal::Below => "below",
+        Refusal::ParagraphStart => "paragraph-start",
+        Refusal::ParagraphEnd => "paragraph-end",
+        Refusal::TooLong => "too-long",
+        Refusal::SpansFull => "spans-full",
+        Refusal::Flags => "flags",
+        Refusal::NotInBatch => "not-in-batch",
+        Refusal::NestingFull => "nesting-full",
+    }
+}
+
+fn is_numbered(refusal: Refusal) -> bool
+    ensures { result ≡ has_number refusal }
+{
+    matches!(
+        refusal,
+        Refusal::Order | Refusal::Beyond | Refusal::Below | Refusal::TooLong | Refusal::SpansFull
+    )
+}
+
+// ---- units
+
+fn push_quoted(left: &[u16], right: &[u16], out: &mut Vec<u8>) -> Result<(), NoMemory>
+    ensures ok { OnOk result (out.new.items
+        ≡ out.old.items ++ spaced (codes "\"" ++ flat_map unit_text (left.now ++ right.now) ++ codes "\"")) }
+    ensures err { OnErr result (Extends out.old.items out.new.items) }
+{
+    push(" \"", out)?;
+    push_units(left, out)?;
+    push_units(right, out)?;
+    push("\"", out)
+}
+
+fn push_units(units: &[u16], out: &mut Vec<u8>) -> Result<(), NoMemory>
+    ensures ok { OnOk result (out.new.items ≡ out.old.items ++ flat_map unit_text units.now) }
+    ensures err { OnErr result (Extends out.old.items out.new.items) }
+{
+    for unit in units {
+        push_unit(*unit, out)?;
+    }
+    Ok(())
+}
+
+fn push_unit(unit: u16, out: &mut Vec<u8>) -> Result<(), NoMemory>
+    ensures ok { OnOk result (out.new.items ≡ out.old.items ++ unit_text unit) }
+    ensures err { OnErr result (Extends out.old.items out.new.items) }
+{
+    match unit {
+        0x22 | 0x5C => push_escaped(unit, out),
+        0x20..=0x7E => {
+            out.push(unit as u8)?;
+            Ok(())
+        }
+        _ => push_escaped(unit, out),
+    }
+}
+
+fn push_escaped(unit: u16, out: &mut Vec<u8>) -> Result<(), NoMemory>
+    ensures ok { OnOk result (out.new.items ≡ out.old.items ++ escaped unit) }
+    ensures err { OnErr result (Extends out.old.items out.new.items) }
+{
+    push("\\u", out)?;
+    let digits = [
+        digit_of(unit / 4096),
+        digit_of(unit / 256 % 16),
+        digit_of(unit / 16 % 16),
+        digit_of(unit % 16),
+    ];
+    out.extend_from_slice(&digits)?;
+    Ok(())
+}
+
+fn digit_of(value: u16) -> u8
+    requires { value < 16 }
+    ensures { result ≡ hex_digit value }
+{
+    let value = value as u8;
+    if value < 10 {
+        b'0' + value
+    } else {
+        b'a' + (value - 10)
+    }
+}
+
+#[cfg(test)]
+mod tests {
+    use super::*;
+    use std::test::Fail;
+
+    #[test]
+    fn prints_the_lines(rt: HostRuntime) -> Result<(), Fail> {
+        let mut out = Vec::new(rt.alloc());
+        print_header(1, "replace", &mut out)?;
+        let verdicts = [
+            (0, 5, 5, Verdict::Done, 0),
+            (2, 2, 0, Verdict::NoChange, 0),
+            (3, 1, 0, Verdict::Refused(Refusal::Order), 3),
+            (0, 99, 0, Verdict::Refused(Refusal::Beyond), 3),
+            (-1, 0, 0, Verdict::Refused(Refusal::Below), 3),
+            (0, 0, 1, Verdict::Refused(Refusal::TooLong), 1_048_577),
+            (0, 0, 1, Verdict::Refused(Refusal::Depth), 0),
+        ];
+        for (start, end, units, verdict, number) in verdicts {
+            let logged = Logged { verdict, number };
+            print_entry(
+                &LogEntry::Replace {
+                    depth: 0,
+                    start,
+                    end,
+                    units,
+                    logged,
+                },
+                &mut out,
+            )?;
+        }
+        print_units(&[0x68, 0x78], &[0x79, 0x6F], &mut out)?;
+        print_units(
+            &[0x61, 0x22, 0x5C, 0x0A, 0xE9],
+            &[0xD83D, 0x7E, 0x7F, 0x20],
+            &mut out,
+        )?;
+        let want = "> 1 replace\n\
+            edit 0 replace 0 5 5 done\n\
+            edit 0 replace 2 2 0 nochange\n\
+            edit 0 replace 3 1 0 refused order 3\n\
+            edit 0 replace 0 99 0 refused beyond 3\n\
+            edit 0 replace -1 0 0 refused below 3\n\
+            edit 0 replace 0 0 1 refused too-long 1048577\n\
+            edit 0 replace 0 0 1 refused depth\n\
+            text 4 \"hxyo\"\n\
+            text 9 \"a\\u0022\\u005c\\u000a\\u00e9\\ud83d~\\u007f \"\n";
+        assert_eq!(rt; out.as_slice(), want.as_bytes());
+        Ok(())
+    }
+}

@@ -1,0 +1,98 @@
+//! How a run ends.
+
+ghost use Rattle.std.specs.Prelude.{◌≡◌, ◌≤◌, length};
+ghost use Rattle.replay_cli.specs.Statuses.{code_of, status_text, kind_text};
+
+use arrayvec::ArrayString;
+use itoa::Buffer;
+
+/// Why a line of a trace is no command.
+#[derive(Clone, Copy, Debug, PartialEq, Eq)]
+pub enum TraceFault {
+    /// The line asks for nothing that this program does.
+    Unbuilt,
+    /// There was no memory to read it.
+    NoMemory,
+}
+
+/// How a run ended.
+#[derive(Clone, Copy, Debug, PartialEq, Eq)]
+pub enum Status {
+    /// The trace was run to its end, and all output is written.
+    Done,
+    /// The words are none that the program knows.
+    Usage,
+    /// This line, counted from 1, is the first that isn't blank and is no command.
+    TraceFault { line: u32, kind: TraceFault },
+    /// The trace couldn't be read.
+    ReadFault,
+    /// The output couldn't be written.
+    WriteFault,
+    /// There was no memory.
+    NoMemory,
+    /// The trace has more than 268,435,456 bytes.
+    TraceTooLong,
+}
+
+impl Status {
+    /// The program's exit code.
+    pub fn code(&self) -> u8
+        ensures { result ≡ code_of self.now }
+    {
+        match self {
+            Status::Done => 0,
+            Status::Usage => 1,
+            Status::TraceFault { .. } => 2,
+            Status::ReadFault => 4,
+            Status::WriteFault => 5,
+            Status::NoMemory => 6,
+            Status::TraceTooLong => 7,
+        }
+    }
+
+    /// What is said of it on standard error, without a line end; nothing where the run is done.
+    pub fn text(&self) -> ArrayString<64>
+        ensures { result.bytes ≡ status_text self.now }
+    {
+        match self {
+            Status::Done => text_of(""),
+            Status::Usage => text_of("fault usage"),
+            Status::TraceFault { line, kind } => line_fault(*line, *kind),
+            Status::ReadFault => text_of("fault read"),
+            Status::WriteFault => text_of("fault write"),
+            Status::NoMemory => text_of("fault memory"),
+            Status::TraceTooLong => text_of("fault trace-too-long"),
+        }
+    }
+}
+
+// A text that fits.
+fn text_of(words: &str) -> ArrayString<64>
+    requires { length words.now ≤ 64 }
+    ensures { result.bytes ≡ words.now }
+{
+    let mut text = ArrayString::new();
+    text.push_str(words);
+    text
+}
+
+fn line_fault(line: u32, kind: TraceFault) -> ArrayString<64>
+    ensures { result.bytes ≡ status_text (Status.TraceFault line kind) }
+{
+    let mut digits = Buffer::new();
+    let mut text = text_of("fault line ");
+    text.push_str(digits.format(line));
+    text.push_str(" ");
+    text.push_str(kind_words(kind));
+    text
+}
+
+fn kind_words(kind: TraceFault) -> &'static str
+    ensures words { result.now ≡ kind_text kind }
+    ensures short { length result.now ≤ 20 }
+{
+    match kind {
+        TraceFault::Unbuilt => "unbuilt",
+        TraceFault::NoMemory => "memory",
+    }
+}

@@ -1,0 +1,122 @@
+//! The real files.
+
+ghost use Rattle.std.specs.Prelude.{◌≡◌, ◌≤◌, length, IfOk, IfSome, OnOk, OnErr, Ok, false};
+ghost use Rattle.replay_io.specs.Outside.{Rose};
+ghost use Rattle.replay_io.specs.Real.{unasked, opened, unopened, unread};
+
+use crate::asked::AskedNames;
+use crate::faults::{Failed, ReadFault, TRIES};
+use crate::store::Store;
+use std::alloc::Global;
+use std::fs::File;
+use std::io::{ErrorKind, Read};
+use std::marker::Model;
+use std::rt::Files;
+
+/// The files of the system. It tells no bytes.
+///
+/// Before a file is begun a call hands out no byte. A `begin_read` answers `NoMemory` where the system tells want of
+/// memory, or where there is none for the name.
+#[derive(Drop)]
+pub struct FileStore<R: Files> {
+    rt: R,
+    file: Option<R::File>,
+    asked: AskedNames,
+    faults: u64,
+}
+
+impl<R: Files> Model for FileStore<R> {
+    ghost use Rattle.std.specs.Prelude.{is_some};
+    ghost use Rattle.replay_io.specs.Real.{RealFiles};
+
+    ghost Value = { RealFiles };
+
+    ghost view = { λ store. record { asked = store.asked; reading = is_some store.file; faults = store.faults } };
+}
+
+impl<R: Files> FileStore<R> {
+    /// The files that a runtime reaches. The allocator is for the names asked for.
+    pub fn new(rt: R, alloc: Global) -> FileStore<R>
+        ensures { result ≡ unasked }
+    {
+        FileStore {
+            rt,
+            file: None,
+            asked: AskedNames::new(alloc),
+            faults: 0,
+        }
+    }
+}
+
+impl<R: Files> Store for FileStore<R> {
+    ghost use Rattle.std.specs.Prelude.{None};
+
+    ghost stands = { λ _ _. None };
+
+    ghost left = { λ _. None };
+
+    ghost asked = { λ store. store.asked };
+
+    ghost faults = { λ store. store.faults };
+
+    fn begin_read(&mut self, name: &str) -> Result<(), ReadFault>
+        ensures begun { OnOk result (self.new ≡ opened name.now self.old) }
+        ensures refused { result ≡ Err ReadFault.Failed → self.new ≡ unopened name.now self.old }
+        ensures no_memory { result ≡ Err ReadFault.NoMemory → self.new ≡ self.old }
+        ensures failed { result ≡ Err ReadFault.Failed → Rose self.old.faults self.new.faults }
+        ensures counts { self.old.faults ≤ self.new.faults }
+    {
+        match File::open(&self.rt, name) {
+            Ok(file) => {
+                self.asked.keep(name, true)?;
+                self.file = Some(file);
+                Ok(())
+            }
+            Err(error) => {
+                if error.kind() == ErrorKind::OutOfMemory {
+                    return Err(ReadFault::NoMemory);
+                }
+                self.asked.keep(name, false)?;
+                self.faults = self.faults.saturating_add(1);
+                Err(ReadFault::Failed)
+            }
+        }
+    }
+
+    fn take(&mut self, buf: &mut [u8]) -> Result<usize, Failed>
+        ensures within { IfOk result (λ count. count ≤ length buf.new) }
+        ensures unbegun { self.old.reading ≡ false → result ≡ Ok 0 }
+        ensures ok { OnOk result (self.new ≡ self.old) }
+        ensures err { OnErr result (self.new ≡ unread self.old) }
+        ensures failed { OnErr result (Rose self.old.faults self.new.faults) }
+        ensures counts { self.old.faults ≤ self.new.faults }
+    {
+        let Some(file) = &mut self.file else {
+            return Ok(0);
+        };
+        match read_some(file, buf) {
+            Some(count) => Ok(count),
+            None => {
+                self.faults = self.faults.saturating_add(1);
+                Err(Failed)
+            }
+        }
+    }
+}
+
+/// Reads the next bytes of a file, and answers how many.
+fn read_some<F: Read>(file: &mut F, buf: &mut [u8]) -> Option<usize>
+    ensures { IfSome result (λ count. count ≤ length buf.new) }
+{
+    for _ in 0..TRIES {
+        match file.read(buf) {
+            Ok(count) => return Some(count),
+            Err(error) => {
+                if error.kind() != ErrorKind::Interrupted {
+                    return None;
+                }
+            }
+        }
+    }
+    None
+}

@@ -1,0 +1,31 @@
+//! A sink that takes everything and keeps nothing.
+
+ghost use Rattle.std.specs.Prelude.{◌≡◌, length, Ok};
+
+use crate::faults::Failed;
+use crate::sink::Sink;
+
+/// A place to write to that keeps no bytes and tells none. Each call takes its whole piece, and none fails.
+#[derive(Debug, Default, Drop)]
+pub struct SteadySink;
+
+impl SteadySink {
+    /// A sink.
+    pub fn new() -> SteadySink {
+        SteadySink
+    }
+}
+
+impl Sink for SteadySink {
+    ghost use Rattle.std.specs.Prelude.{None};
+
+    ghost written = { λ _. None };
+
+    ghost faults = { λ _. 0 };
+
+    fn put(&mut self, bytes: &[u8]) -> Result<usize, Failed>
+        ensures { result ≡ Ok (length bytes.now) }
+    {
+        Ok(bytes.len())
+    }
+}
