@@ -1,4 +1,14 @@
+pub mod FullTables
+pub mod OverLists
 pub mod Tables
 pub mod Splices
 pub mod Newlines
 pub mod Readings
+pub mod Paragraphs
+pub mod Ends
+pub mod KeptBoundaries
+pub mod MovedSpans
+pub mod SpanLists
+pub mod Replacements
+pub mod AttachedSpans
+pub mod EditedStates

@@ -1,26 +1,100 @@
 -- The state after an edit, and what the edit changed.
-use Rattle.std.specs.Prelude.{ℕ, [], length}
+use Rattle.std.specs.Prelude.{ℕ, ◌&&◌, ◌==◌, Bool, not, List, [], ◌∷◌, map, filter, length, if◌then◌else◌}
+use Rattle.edit_base.specs.declared.rows.SpanRow.{SpanRow}
 use Rattle.edit_base.specs.declared.verdicts.Verdict.{Verdict}
 use Rattle.edit_base.specs.declared.verdicts.Verdict.TheVariants.{Done, NoChange, Ignored, Absent, Refused}
 use Rattle.edit_model.specs.declared.changes.Change.{Change}
+use Rattle.edit_model.specs.declared.changes.MovedRow.{MovedRow}
 use Rattle.edit_model.specs.declared.steps.Step.{Step}
 use Rattle.edit_model.specs.declared.steps.Step.TheVariants as step
-use Rattle.edit_model.specs.State.{State, place}
-use Rattle.edit_model.specs.Replaced.{replaced}
+use Rattle.edit_model.specs.State.{Span, State, place}
+use Rattle.edit_model.specs.Replaced.{replaced, moved_span, emptied_spans, kept_spans}
+use Rattle.edit_model.specs.Attached.{is_attached, with_span, without_span, spans_of}
 use Rattle.edit_model.specs.Verdicts.{judged}
 
+-- ---- what an edit changed
+
+-- a span before an edit and after it
+pub record Shift : Type 0 where
+  pub from : Span
+  pub to : Span
+
+-- the units from `start` to `old_end` became `grown` units, and these spans went, moved and came
+pub record Effect : Type 0 where
+  pub start : ℕ
+  pub old_end : ℕ
+  pub grown : ℕ
+  pub removed : List Span
+  pub moved : List Shift
+  pub added : List Span
+
 -- no edit was done yet
-abbrev pub no_change : Change
-no_change = record { start = 0; old_end = 0; grown = 0; removed = []; moved = []; added = [] }
+abbrev pub no_effect : Effect
+no_effect = record { start = 0; old_end = 0; grown = 0; removed = []; moved = []; added = [] }
+
+-- a row without its order
+abbrev pub span_of : SpanRow → Span
+span_of row = record { id = row.id; start = row.start; end = row.end; flags = row.flags; what = row.what }
+
+abbrev pub shift_of : MovedRow → Shift
+shift_of row = record { from = span_of row.from; to = span_of row.to }
+
+-- a change without the orders of its rows
+abbrev pub effect_of : Change → Effect
+effect_of change = record {
+  start = change.start;
+  old_end = change.old_end;
+  grown = change.grown;
+  removed = map span_of change.removed.items;
+  moved = map shift_of change.moved.items;
+  added = map span_of change.added.items;
+}
+
+-- an edit of spans alone, at the place 0
+abbrev pub spans_effect : List Span → List Shift → List Span → Effect
+spans_effect removed moved added = record { start = 0; old_end = 0; grown = 0; removed = removed; moved = moved; added = added }
+
+-- the start or the end differs
+abbrev pub has_moved : Shift → Bool
+has_moved shift = not (shift.from.start == shift.to.start && shift.from.end == shift.to.end)
+
+abbrev pub shifts_by : (Span → Span) → List Span → List Shift
+shifts_by move spans = map (λ span. record { from = span; to = move span }) spans
+
+abbrev pub replaced_effect : State → ℕ → ℕ → ℕ → Effect
+replaced_effect state s e n = record {
+  start = s;
+  old_end = e;
+  grown = n;
+  removed = emptied_spans s e n state.spans;
+  moved = filter has_moved (shifts_by (moved_span s e n state.units) (kept_spans s e n state.spans));
+  added = [];
+}
+
+-- an attached span is one moved row, even where nothing differs, and another an added one
+abbrev pub set_effect : State → Span → Effect
+set_effect state span =
+    if is_attached span.id state.spans
+    then spans_effect [] (shifts_by (λ other. span) (spans_of span.id state.spans)) []
+    else spans_effect [] [] (span ∷ [])
+
+-- what an edit changes where its verdict is done
+unfoldable pub change_of : State → Step → Effect
+change_of state (step.Replace start end incoming) = replaced_effect state (place start) (place end) (length incoming.units)
+change_of state (step.Set id start end flags what) =
+    set_effect state (record { id = id; start = place start; end = place end; flags = flags; what = what })
+change_of state (step.Remove id) = spans_effect (spans_of id state.spans) [] []
+
+-- ---- the state after an edit
 
 -- the state that an edit makes where its verdict is done
 unfoldable pub stepped : State → Step → State
 stepped state (step.Replace start end incoming) = replaced state (place start) (place end) incoming
-
--- what an edit changes where its verdict is done
-unfoldable pub change_of : State → Step → Change
-change_of state (step.Replace start end incoming) =
-    record { start = place start; old_end = place end; grown = length incoming.units; removed = []; moved = []; added = [] }
+stepped state (step.Set id start end flags what) = record {
+  units = state.units;
+  spans = with_span (record { id = id; start = place start; end = place end; flags = flags; what = what }) state.spans;
+}
+stepped state (step.Remove id) = record { units = state.units; spans = without_span id state.spans }
 
 -- one value for an edit that was done, and another for one that changed nothing
 abbrev pub on_done : {X : Type 0} → Verdict → X → X → X
@@ -33,3 +107,7 @@ on_done (Refused refusal) done kept = kept
 -- the state after an edit, whatever its verdict
 abbrev pub state_after : State → ℕ → Step → State
 state_after state slots asked = on_done (judged state slots asked) (stepped state asked) state
+
+-- what the last edit that was done changed
+abbrev pub effect_after : State → ℕ → Step → Effect → Effect
+effect_after state slots asked last = on_done (judged state slots asked) (change_of state asked) last

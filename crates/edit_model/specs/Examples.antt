@@ -1,5 +1,6 @@
 -- Worked examples of reading and printing.
 use Rattle.std.specs.Prelude.{◌≡◌, ◌∷◌, [], pos, negsuc, codes, Some, None}
+use Rattle.edit_base.specs.declared.kinds.What.TheVariants.{Tag}
 use Rattle.edit_base.specs.declared.verdicts.Verdict.TheVariants.{Refused}
 use Rattle.edit_base.specs.declared.verdicts.Refusal.TheVariants.{Below}
 use Rattle.edit_model.specs.declared.commands.Command.TheVariants as command
@@ -7,13 +8,18 @@ use Rattle.edit_model.specs.declared.entries.LogEntry.TheVariants as entry
 use Rattle.edit_model.specs.Printed.{entry_line, text_line}
 use Rattle.edit_model.specs.Reading.{plain_incoming, read_command}
 
--- blanks, the order of members and escapes don't matter; -0 is no place, and half of a surrogate pair is no text
+-- blanks, the order of members and escapes don't matter; -0 is no place, and half of a surrogate pair is no text; a tag has
+-- a number, without a zero in front
 abbrev pub ReadsLines : Type 0
 ReadsLines =
     (read_command (codes "{ \"text\": \"\\u0068i\", \"end\": 5, \"start\": -2, \"op\": \"replace\" }")
     ≡ Some (command.Replace (negsuc 1) (pos 5) (plain_incoming (codes "hi"))))
     × (read_command (codes "{\"op\":\"replace\",\"start\":-0,\"end\":5,\"text\":\"hi\"}") ≡ None)
     × (read_command (codes "{\"op\":\"replace\",\"start\":0,\"end\":5,\"text\":\"\\ud83d\"}") ≡ None)
+    × (read_command (codes "{\"op\":\"set_span\",\"id\":5,\"start\":0,\"end\":2,\"flags\":33,\"what\":\"tag 7\"}")
+    ≡ Some (command.SetSpan 5 (pos 0) (pos 2) 33 (Tag 7)))
+    × (read_command (codes "{\"op\":\"set_span\",\"id\":5,\"start\":0,\"end\":2,\"flags\":33,\"what\":\"tag 07\"}") ≡ None)
+    × (read_command (codes "{\"op\":\"set_span\",\"id\":5,\"start\":0,\"end\":2,\"flags\":33,\"what\":\"tag\"}") ≡ None)
 
 -- a refused edit; then a letter, the quote, the backslash, a line's end, half of a surrogate pair, the last plain unit
 -- and the one behind it

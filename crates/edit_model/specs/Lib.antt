@@ -1,7 +1,15 @@
 pub mod State
+pub mod Flags
+pub mod Boundaries
+pub mod EndTable
 pub mod Replaced
+pub mod Attached
+pub mod WellFormed
+pub mod Over
 pub mod Verdicts
 pub mod Changed
+pub mod Leads
+pub mod Faces
 pub mod Log
 pub mod Printed
 pub mod Reading

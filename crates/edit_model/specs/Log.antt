@@ -10,11 +10,19 @@ use Rattle.edit_model.specs.declared.entries.Logged.{Logged}
 use Rattle.edit_model.specs.declared.steps.Step.{Step}
 use Rattle.edit_model.specs.declared.steps.Step.TheVariants as step
 use Rattle.edit_model.specs.State.{State}
-use Rattle.edit_model.specs.Verdicts.{length_after}
+use Rattle.edit_model.specs.Verdicts.{length_after, spans_after}
 
 -- the length that would stand after an edit
 abbrev pub length_of : State → Step → ℕ
 length_of state (step.Replace start end incoming) = length_after state start end incoming
+length_of state (step.Set id start end flags what) = length state.units
+length_of state (step.Remove id) = length state.units
+
+-- the number of spans that would stand after an edit
+abbrev pub span_count_of : State → Step → ℕ
+span_count_of state (step.Replace start end incoming) = length state.spans
+span_count_of state (step.Set id start end flags what) = spans_after state id
+span_count_of state (step.Remove id) = length state.spans
 
 -- the number that is printed behind a refusal's name, and 0 where none is
 abbrev pub refusal_number : State → Step → Refusal → ℕ
@@ -28,7 +36,7 @@ refusal_number state asked Below = length state.units
 refusal_number state asked ParagraphStart = 0
 refusal_number state asked ParagraphEnd = 0
 refusal_number state asked TooLong = length_of state asked
-refusal_number state asked SpansFull = 0
+refusal_number state asked SpansFull = span_count_of state asked
 refusal_number state asked Flags = 0
 refusal_number state asked NotInBatch = 0
 refusal_number state asked NestingFull = 0
@@ -48,3 +56,18 @@ logged state asked verdict = record { verdict = verdict; number = verdict_number
 abbrev pub entry_of : State → ℕ → Step → Verdict → LogEntry
 entry_of state depth (step.Replace start end incoming) verdict =
     entry.Replace depth start end (length incoming.units) (logged state (step.Replace start end incoming) verdict)
+entry_of state depth (step.Set id start end flags what) verdict =
+    entry.Set depth id start end flags (logged state (step.Set id start end flags what) verdict)
+entry_of state depth (step.Remove id) verdict = entry.Remove depth id (logged state (step.Remove id) verdict)
+
+-- a number for a refusal, and 0 for any other verdict
+abbrev pub on_refusal : Verdict → ℕ → ℕ
+on_refusal Done number = 0
+on_refusal NoChange number = 0
+on_refusal Ignored number = 0
+on_refusal Absent number = 0
+on_refusal (Refused refusal) number = number
+
+-- the number behind a query's refusal is the present length
+abbrev pub range_logged : State → Verdict → Logged
+range_logged state verdict = record { verdict = verdict; number = on_refusal verdict (length state.units) }

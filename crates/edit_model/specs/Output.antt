@@ -1,17 +1,19 @@
 -- What a trace gives: the bytes of each command, the end block, and how the run ends.
 use Rattle.std.specs.Prelude.{ℕ, ◌+◌, ◌++◌, List, [], ◌∷◌, length, nat_lt, codes, if◌then◌else◌, Option, Some, None}
-use Rattle.std.specs.List.{concat, flat_map}
+use Rattle.std.specs.List.{concat}
 use Rattle.edit_base.specs.declared.bounds.TheConstants.Limits.{TRACE_BYTES}
 use Rattle.edit_model.specs.declared.commands.Command.{Command}
 use Rattle.edit_model.specs.declared.commands.Command.TheVariants as commands
-use Rattle.edit_model.specs.declared.entries.LogEntry.{LogEntry}
 use Rattle.edit_model.specs.declared.steps.Step.{Step}
 use Rattle.edit_model.specs.declared.steps.Step.TheVariants as steps
-use Rattle.edit_model.specs.State.{State, empty_state}
-use Rattle.edit_model.specs.Verdicts.{judged}
-use Rattle.edit_model.specs.Changed.{state_after}
-use Rattle.edit_model.specs.Log.{entry_of}
-use Rattle.edit_model.specs.Printed.{header_line, entry_line, end_block}
+use Rattle.edit_base.specs.declared.rows.Pick.TheVariants.{All}
+use Rattle.edit_base.specs.declared.verdicts.Verdict.{Verdict}
+use Rattle.edit_model.specs.State.{State, empty_state, place}
+use Rattle.edit_model.specs.Over.{over, next_edge}
+use Rattle.edit_model.specs.Verdicts.{judged, judged_range}
+use Rattle.edit_model.specs.Changed.{state_after, on_done}
+use Rattle.edit_model.specs.Log.{entry_of, range_logged}
+use Rattle.edit_model.specs.Printed.{header_line, entry_line, reply_line, found_lines, edge_line, end_block}
 use Rattle.edit_model.specs.Reading.{read_command}
 use Rattle.edit_model.specs.Lines.{trace_lines, is_blank}
 
@@ -20,22 +22,48 @@ use Rattle.edit_model.specs.Lines.{trace_lines, is_blank}
 -- the operation's name
 abbrev pub name_of : Command → List ℕ
 name_of (commands.Replace start end incoming) = codes "replace"
+name_of (commands.SetSpan id start end flags what) = codes "set_span"
+name_of (commands.RemoveSpan id) = codes "remove_span"
+name_of (commands.SpansOver start end) = codes "spans_over"
+name_of (commands.NextEdge start limit) = codes "next_edge"
 
--- the edit that a command asks for
-abbrev pub step_of : Command → Step
-step_of (commands.Replace start end incoming) = steps.Replace start end incoming
+-- the edit that a command asks for, if it asks for one
+abbrev pub step_of : Command → Option Step
+step_of (commands.Replace start end incoming) = Some (steps.Replace start end incoming)
+step_of (commands.SetSpan id start end flags what) = Some (steps.Set id start end flags what)
+step_of (commands.RemoveSpan id) = Some (steps.Remove id)
+step_of (commands.SpansOver start end) = None
+step_of (commands.NextEdge start limit) = None
 
--- the state behind a command
+-- the state behind a command: that of its edit, or the same
+abbrev pub behind_step : State → Option Step → State
+behind_step state None = state
+behind_step state (Some asked) = state_after state 0 asked
+
 unfoldable pub state_behind : State → Command → State
-state_behind state asked = state_after state 0 (step_of asked)
+state_behind state asked = behind_step state (step_of asked)
 
--- what is logged of a command
-unfoldable pub log_of : State → Command → List LogEntry
-log_of state asked = entry_of state 0 (step_of asked) (judged state 0 (step_of asked)) ∷ []
+-- the line of an edit
+abbrev pub edit_line : State → Step → List ℕ
+edit_line state asked = entry_line (entry_of state 0 asked (judged state 0 asked))
 
--- the bytes of a command: its header, and a line for each entry of the log
+-- a query's answer, or the refusal of its range
+abbrev pub answer_lines : State → Verdict → List ℕ → List ℕ
+answer_lines state verdict answer = on_done verdict answer (reply_line (range_logged state verdict))
+
+-- what a command prints behind its header
+unfoldable pub lines_of : State → Command → List ℕ
+lines_of state (commands.Replace start end incoming) = edit_line state (steps.Replace start end incoming)
+lines_of state (commands.SetSpan id start end flags what) = edit_line state (steps.Set id start end flags what)
+lines_of state (commands.RemoveSpan id) = edit_line state (steps.Remove id)
+lines_of state (commands.SpansOver start end) =
+    answer_lines state (judged_range state start end) (found_lines (over (place start) (place end) All state.spans))
+lines_of state (commands.NextEdge start limit) =
+    answer_lines state (judged_range state start limit) (edge_line (next_edge (place start) (place limit) state.spans))
+
+-- the bytes of a command: its header, and what it prints behind it
 abbrev pub command_bytes : ℕ → State → Command → List ℕ
-command_bytes number state asked = header_line number (name_of asked) ++ flat_map entry_line (log_of state asked)
+command_bytes number state asked = header_line number (name_of asked) ++ lines_of state asked
 
 -- ---- the lines
 

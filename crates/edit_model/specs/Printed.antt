@@ -9,7 +9,11 @@ use Rattle.edit_base.specs.declared.verdicts.Refusal.TheVariants.{Depth, Budget,
 use Rattle.edit_model.specs.declared.entries.LogEntry.{LogEntry}
 use Rattle.edit_model.specs.declared.entries.LogEntry.TheVariants as entry
 use Rattle.edit_model.specs.declared.entries.Logged.{Logged}
-use Rattle.edit_model.specs.State.{State}
+use Rattle.edit_model.specs.declared.replies.Reply.{Reply}
+use Rattle.edit_model.specs.declared.replies.Reply.TheVariants as reply
+use Rattle.edit_base.specs.declared.kinds.What.{What}
+use Rattle.edit_base.specs.declared.kinds.What.TheVariants.{Tag, Face, Margin, Float, Watch, SelStart, SelEnd, Composing}
+use Rattle.edit_model.specs.State.{Span, State}
 
 -- a word behind a space
 abbrev pub spaced : List ℕ → List ℕ
@@ -99,7 +103,47 @@ abbrev pub entry_line : LogEntry → List ℕ
 entry_line (entry.Replace depth start end units it) =
     codes "edit" ++ spaced (decimal depth) ++ spaced (codes "replace") ++ spaced (signed_decimal start) ++ spaced (signed_decimal end)
     ++ spaced (decimal units) ++ logged_text it ++ line_end
+entry_line (entry.Set depth id start end flags it) =
+    codes "edit" ++ spaced (decimal depth) ++ spaced (codes "set") ++ spaced (decimal id) ++ spaced (signed_decimal start) ++ spaced (signed_decimal end)
+    ++ spaced (decimal flags) ++ logged_text it ++ line_end
+entry_line (entry.Remove depth id it) =
+    codes "edit" ++ spaced (decimal depth) ++ spaced (codes "remove") ++ spaced (decimal id) ++ logged_text it ++ line_end
+
+-- a verdict, how many spans are found, or a place
+abbrev pub reply_text : Reply → List ℕ
+reply_text (reply.Verdict it) = codes "reply" ++ logged_text it ++ line_end
+reply_text (reply.Found count) = codes "found" ++ spaced (decimal count) ++ line_end
+reply_text (reply.Edge place) = codes "edge" ++ spaced (decimal place) ++ line_end
+
+-- the reply to a query whose range is refused
+abbrev pub reply_line : Logged → List ℕ
+reply_line it = reply_text (reply.Verdict it)
+
+-- ---- spans
+
+-- what a span carries, in words
+abbrev pub what_text : What → List ℕ
+what_text (Tag number) = codes "tag" ++ spaced (decimal number)
+what_text (Face number) = codes "face" ++ spaced (decimal number)
+what_text (Margin first rest) = codes "margin" ++ spaced (decimal first) ++ spaced (decimal rest)
+what_text (Float margin lines) = codes "float" ++ spaced (decimal margin) ++ spaced (decimal lines)
+what_text (Watch slot) = codes "watch" ++ spaced (decimal slot)
+what_text SelStart = codes "sel-start"
+what_text SelEnd = codes "sel-end"
+what_text Composing = codes "composing"
+
+abbrev pub span_line : Span → List ℕ
+span_line span =
+    codes "span" ++ spaced (decimal span.id) ++ spaced (decimal span.start) ++ spaced (decimal span.end) ++ spaced (decimal span.flags)
+    ++ spaced (what_text span.what) ++ line_end
+
+-- how many spans there are, and a line for each
+abbrev pub found_lines : List Span → List ℕ
+found_lines spans = reply_text (reply.Found (length spans)) ++ flat_map span_line spans
+
+abbrev pub edge_line : ℕ → List ℕ
+edge_line place = reply_text (reply.Edge place)
 
 -- the block behind the last command
 abbrev pub end_block : State → List ℕ
-end_block state = codes "end" ++ line_end ++ text_line state.units
+end_block state = codes "end" ++ line_end ++ text_line state.units ++ flat_map span_line state.spans

@@ -1,13 +1,20 @@
 -- The verdict of an edit: the first line of a table that applies.
-use Rattle.std.specs.Prelude.{ℕ, ℤ, pos, ◌&&◌, ◌||◌, ◌==◌, Bool, List, [], ◌∷◌, length, nat_lt, int_lt, if◌then◌else◌}
+use Rattle.std.specs.Prelude.{ℕ, ℤ, pos, ◌+◌, ◌&&◌, ◌||◌, ◌==◌, Bool, false, not, List, [], ◌∷◌, length, nat_lt, int_lt, if◌then◌else◌}
 use Rattle.std.specs.Ordering.{int_eq}
+use Rattle.std.specs.List.{list_any}
+use Rattle.edit_base.specs.declared.kinds.What.{What}
+use Rattle.edit_base.specs.declared.kinds.What.TheVariants.{Tag, Face, Margin, Float, Watch, SelStart, SelEnd, Composing}
 use Rattle.edit_base.specs.declared.rows.Incoming.{Incoming}
 use Rattle.edit_base.specs.declared.verdicts.Verdict.{Verdict}
-use Rattle.edit_base.specs.declared.verdicts.Verdict.TheVariants.{Done, NoChange, Refused}
-use Rattle.edit_base.specs.declared.verdicts.Refusal.TheVariants.{Order, Beyond, Below, TooLong}
-use Rattle.edit_base.specs.declared.bounds.TheConstants.Limits.{TEXT}
+use Rattle.edit_base.specs.declared.verdicts.Verdict.TheVariants.{Done, NoChange, Ignored, Absent, Refused}
+use Rattle.edit_base.specs.declared.verdicts.Refusal.TheVariants.{Reserved, Slot, Order, Beyond, Below, ParagraphStart, ParagraphEnd, TooLong, SpansFull, Flags}
+use Rattle.edit_base.specs.declared.bounds.TheConstants.Limits.{TEXT, SPANS}
 use Rattle.edit_model.specs.State.{State, text_end, place}
+use Rattle.edit_model.specs.Flags.{is_bad, kind_of, is_point_mark, is_paragraph}
+use Rattle.edit_model.specs.Boundaries.{is_boundary}
 use Rattle.edit_model.specs.Replaced.{spliced_length}
+use Rattle.edit_model.specs.Attached.{has_id, is_attached}
+use Rattle.edit_model.specs.WellFormed.{is_kept_what}
 use Rattle.edit_model.specs.declared.steps.Step.{Step}
 use Rattle.edit_model.specs.declared.steps.Step.TheVariants as step
 
@@ -15,6 +22,35 @@ use Rattle.edit_model.specs.declared.steps.Step.TheVariants as step
 abbrev pub first_of : List (Bool × Verdict) → Verdict
 first_of [] = Done
 first_of (line ∷ lines) = if line.0 then line.1 else first_of lines
+
+-- ---- tests
+
+-- an id that is kept for the selection or the composing region
+abbrev pub is_kept_id : ℕ → Bool
+is_kept_id id = nat_lt id 3
+
+-- another span watches for this slot
+abbrev pub watches : ℕ → What → Bool
+watches slot (Tag number) = false
+watches slot (Face number) = false
+watches slot (Margin first rest) = false
+watches slot (Float margin lines) = false
+watches slot (Watch other) = other == slot
+watches slot SelStart = false
+watches slot SelEnd = false
+watches slot Composing = false
+
+-- a watch span without a slot of its own
+abbrev pub lacks_slot : State → ℕ → ℕ → What → Bool
+lacks_slot state slots id (Tag number) = false
+lacks_slot state slots id (Face number) = false
+lacks_slot state slots id (Margin first rest) = false
+lacks_slot state slots id (Float margin lines) = false
+lacks_slot state slots id (Watch slot) =
+    not (nat_lt slot slots) || list_any (λ span. not (has_id id span) && watches slot span.what) state.spans
+lacks_slot state slots id SelStart = false
+lacks_slot state slots id SelEnd = false
+lacks_slot state slots id Composing = false
 
 -- one of the places lies behind the text
 abbrev pub goes_beyond : State → ℤ → ℤ → Bool
@@ -24,9 +60,23 @@ goes_beyond state start end = int_lt (text_end state) start || int_lt (text_end 
 abbrev pub goes_below : ℤ → ℤ → Bool
 goes_below start end = int_lt start (pos 0) || int_lt end (pos 0)
 
+-- a paragraph span at a place that is no boundary
+abbrev pub breaks_paragraph : State → ℕ → ℤ → Bool
+breaks_paragraph state flags at = is_paragraph (kind_of flags) && not (is_boundary state.units (place at))
+
+-- a span that may not be empty, and would be
+abbrev pub is_ignored : ℕ → ℤ → ℤ → Bool
+is_ignored flags start end = is_point_mark (kind_of flags) && int_eq start end
+
 -- the length that would stand after a replacement
 abbrev pub length_after : State → ℤ → ℤ → Incoming → ℕ
 length_after state start end incoming = spliced_length (length state.units) (place start) (place end) (length incoming.units)
+
+-- the number of spans that would stand after a set
+abbrev pub spans_after : State → ℕ → ℕ
+spans_after state id = if is_attached id state.spans then length state.spans else length state.spans + 1
+
+-- ---- tables
 
 abbrev pub replace_lines : State → ℤ → ℤ → Incoming → List (Bool × Verdict)
 replace_lines state start end incoming =
@@ -37,6 +87,42 @@ replace_lines state start end incoming =
     ∷ (nat_lt TEXT (length_after state start end incoming), Refused TooLong)
     ∷ []
 
+abbrev pub set_lines : State → ℕ → ℕ → ℤ → ℤ → ℕ → What → List (Bool × Verdict)
+set_lines state slots id start end flags what =
+    (is_kept_id id || is_kept_what what, Refused Reserved)
+    ∷ (lacks_slot state slots id what, Refused Slot)
+    ∷ (is_bad flags, Refused Flags)
+    ∷ (int_lt end start, Refused Order)
+    ∷ (goes_beyond state start end, Refused Beyond)
+    ∷ (goes_below start end, Refused Below)
+    ∷ (breaks_paragraph state flags start, Refused ParagraphStart)
+    ∷ (breaks_paragraph state flags end, Refused ParagraphEnd)
+    ∷ (is_ignored flags start end, Ignored)
+    ∷ (nat_lt SPANS (spans_after state id), Refused SpansFull)
+    ∷ []
+
+abbrev pub remove_lines : State → ℕ → List (Bool × Verdict)
+remove_lines state id =
+    (is_kept_id id, Refused Reserved)
+    ∷ (not (is_attached id state.spans), Absent)
+    ∷ []
+
 -- the verdict of an edit that isn't nested, its incoming text being filtered already, with so many watchers loaded
 unfoldable pub judged : State → ℕ → Step → Verdict
 judged state slots (step.Replace start end incoming) = first_of (replace_lines state start end incoming)
+judged state slots (step.Set id start end flags what) = first_of (set_lines state slots id start end flags what)
+judged state slots (step.Remove id) = first_of (remove_lines state id)
+
+-- ---- queries
+
+-- a query's range is refused as an edit's is
+abbrev pub range_lines : State → ℤ → ℤ → List (Bool × Verdict)
+range_lines state start end =
+    (int_lt end start, Refused Order)
+    ∷ (goes_beyond state start end, Refused Beyond)
+    ∷ (goes_below start end, Refused Below)
+    ∷ []
+
+-- the verdict on a query's range, done where the query is answered
+unfoldable pub judged_range : State → ℤ → ℤ → Verdict
+judged_range state start end = first_of (range_lines state start end)

@@ -1,6 +1,6 @@
 //! What an edit changed.
 
-use edit_base::{Items, SpanRow};
+use edit_base::SpanRow;
 
 /// A span before an edit and after it.
 #[derive(Clone, Copy, Debug, PartialEq, Eq)]
@@ -16,7 +16,7 @@ pub struct Change {
     pub start: u32,
     pub old_end: u32,
     pub grown: u32,
-    pub removed: Items<SpanRow>,
-    pub moved: Items<MovedRow>,
-    pub added: Items<SpanRow>,
+    pub removed: Vec<SpanRow>,
+    pub moved: Vec<MovedRow>,
+    pub added: Vec<SpanRow>,
 }

@@ -1,6 +1,6 @@
 //! What a line of a trace asks for.
 
-use edit_base::Incoming;
+use edit_base::{Incoming, What};
 
 /// A command of a trace, one variant for each operation.
 #[derive(Drop)]
@@ -10,5 +10,27 @@ pub enum Command {
         start: i32,
         end: i32,
         incoming: Incoming,
+    },
+    /// `set_span`: a span is attached, or an attached one is given these places, flags and what.
+    SetSpan {
+        id: u32,
+        start: i32,
+        end: i32,
+        flags: u32,
+        what: What,
+    },
+    /// `remove_span`: an attached span goes.
+    RemoveSpan {
+        id: u32,
+    },
+    /// `spans_over`: the spans that lie over a range.
+    SpansOver {
+        start: i32,
+        end: i32,
+    },
+    /// `next_edge`: the next place where a span starts or ends.
+    NextEdge {
+        start: i32,
+        limit: i32,
     },
 }

@@ -3,7 +3,8 @@
 use edit_base::Verdict;
 
 /// A verdict, and the number that is printed behind its name: the present length behind `order`, `beyond` and `below`,
-/// the length that would stand behind `too-long`, and 0, unprinted, behind every other.
+/// the length that would stand behind `too-long`, the number of spans that would stand behind `spans-full`, and 0,
+/// unprinted, behind every other.
 #[derive(Clone, Copy, Debug, PartialEq, Eq)]
 pub struct Logged {
     pub verdict: Verdict,
@@ -19,6 +20,21 @@ pub enum LogEntry {
         start: i64,
         end: i64,
         units: u32,
+        logged: Logged,
+    },
+    /// A set of a span, with its places as asked.
+    Set {
+        depth: u32,
+        id: u32,
+        start: i64,
+        end: i64,
+        flags: u32,
+        logged: Logged,
+    },
+    /// A removal of a span.
+    Remove {
+        depth: u32,
+        id: u32,
         logged: Logged,
     },
 }

@@ -1,11 +1,24 @@
 //! What the definitions mean: each law is the contract of a function that does nothing.
 
-ghost use Rattle.edit_model.specs.Laws.{OthersChangeNothing, StaysWithinLimit, CutsAtNewlines, ReadsFittingCommands};
+ghost use Rattle.edit_model.specs.Laws.{OthersChangeNothing, KeepsWellFormed, KeepsSeats, StaysInText, KeepsOrder, KeepsBoundaries, PullsToLeast, CutsAtNewlines, ReadsFittingCommands};
 
-/// Only an edit whose verdict is done changes the state, and then the text stays within its limit.
+/// Only an edit whose verdict is done changes the state.
 pub fn edits_that_are_not_done_change_nothing()
-    ensures others { OthersChangeNothing }
-    ensures within { StaysWithinLimit }
+    ensures { OthersChangeNothing }
+{}
+
+/// Every edit leads from a well formed state to a well formed state, for any number of slots.
+pub fn edits_keep_states_well_formed()
+    ensures well_formed { KeepsWellFormed }
+    ensures seats { KeepsSeats }
+{}
+
+/// The end table: ends stay in the text and in order, and paragraph ends stay at boundaries.
+pub fn ends_stay_where_they_may()
+    ensures in_text { StaysInText }
+    ensures in_order { KeepsOrder }
+    ensures at_boundaries { KeepsBoundaries }
+    ensures least { PullsToLeast }
 {}
 
 /// The lines of a trace hold no `\n`, and joined by `\n` they are the trace.

@@ -5,14 +5,19 @@ mod changes;
 mod commands;
 mod entries;
 mod examples;
+mod kinds;
 mod laws;
+mod replies;
 mod steps;
 
 pub use changes::{Change, MovedRow};
 pub use commands::Command;
 pub use entries::{LogEntry, Logged};
 pub use examples::{prints_lines, reads_lines};
+pub use kinds::{EndKind, Kind};
 pub use laws::{
-    commands_bring_what_fits, edits_that_are_not_done_change_nothing, lines_are_cut_at_newlines,
+    commands_bring_what_fits, edits_keep_states_well_formed,
+    edits_that_are_not_done_change_nothing, ends_stay_where_they_may, lines_are_cut_at_newlines,
 };
+pub use replies::Reply;
 pub use steps::Step;

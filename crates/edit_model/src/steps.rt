@@ -1,6 +1,6 @@
 //! The edits that a text can be asked for.
 
-use edit_base::Incoming;
+use edit_base::{Incoming, What};
 
 /// One edit of a text. Places count UTF-16 units; one out of range is refused where the edit is judged.
 #[derive(Drop)]
@@ -10,5 +10,17 @@ pub enum Step {
         start: i32,
         end: i32,
         incoming: Incoming,
+    },
+    /// A span is attached, or an attached one is given these places, flags and what.
+    Set {
+        id: u32,
+        start: i32,
+        end: i32,
+        flags: u32,
+        what: What,
+    },
+    /// An attached span goes.
+    Remove {
+        id: u32,
     },
 }

@@ -1,2 +1,11 @@
-mod Done
+pub mod Lists
+pub mod InPlace
+pub mod Spans
+pub mod Moves
+pub mod Sound
+pub mod Edges
+pub mod Ordered
+pub mod Found
+pub mod Done
+pub mod Told
 mod Turned

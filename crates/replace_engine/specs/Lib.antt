@@ -1,1 +1,4 @@
 pub mod Seen
+pub mod Rows
+pub mod Lines
+pub mod Moved

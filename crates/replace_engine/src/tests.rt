@@ -1,10 +1,15 @@
-//! Replacements at work: their verdicts, the text that they leave, and the limit of its length.
+//! Edits and queries at work: their verdicts, what they leave and change, and the limits.
 
 ghost use Rattle.std.specs.Prelude.{◌≡◌, ◌≤◌, ◌<◌, [], false, length, IfOk};
+ghost use Rattle.edit_model.specs.State.{State};
+ghost use Rattle.edit_model.specs.Leads.{LeadsTo};
 
+use crate::followers::{Follower, Unfollowed};
 use crate::text::SpannedText;
-use edit_base::{Incoming, Items, NoMemory, Refusal, Steps, Verdict, units_of};
-use edit_model::Step;
+use edit_base::{
+    Incoming, Items, NoMemory, Pick, Refusal, SpanRow, Steps, Verdict, What, units_of,
+};
+use edit_model::{Change, Step};
 use std::alloc::Global;
 use std::marker::Brand;
 use std::process::Abort;
@@ -25,35 +30,196 @@ fn bringing(rt: &impl Abort, alloc: Global, units: Vec<u16>) -> Incoming
     }
 }
 
-/// A start, an end, a text to bring, and the verdict of that replacement.
-type Case<'a> = (i32, i32, &'a str, Verdict);
-
-/// A replacement is judged so.
-fn judges(rt: &impl Abort, alloc: Global, text: &SpannedText, case: &Case) -> Result<(), NoMemory> {
-    let (start, end, brought, verdict) = *case;
-    let incoming = bringing(rt, alloc, units_of(alloc, brought)?);
-    let step = Step::Replace {
-        start,
-        end,
-        incoming,
-    };
-    assert_eq!(rt; text.judge(&step, 0), verdict, "{start} {end} {brought}");
-    Ok(())
+/// An edit that is asked for; every span set is a tag but the seat of a watcher.
+#[derive(Clone, Copy, Debug)]
+enum Ask<'a> {
+    Replace(i32, i32, &'a str),
+    Set(u32, i32, i32, u32, u32),
+    Seat(u32, u8),
+    Remove(u32),
 }
 
-/// A replacement is judged and answered so.
-fn replaces<L: Ledger>(
+/// An edit and its verdict.
+type Case<'a> = (Ask<'a>, Verdict);
+
+fn step_of(rt: &impl Abort, alloc: Global, ask: Ask) -> Result<Step, NoMemory> {
+    Ok(match ask {
+        Ask::Replace(start, end, brought) => Step::Replace {
+            start,
+            end,
+            incoming: bringing(rt, alloc, units_of(alloc, brought)?),
+        },
+        Ask::Set(id, start, end, flags, tag) => Step::Set {
+            id,
+            start,
+            end,
+            flags,
+            what: What::Tag(tag),
+        },
+        Ask::Seat(id, slot) => Step::Set {
+            id,
+            start: 0,
+            end: 0,
+            flags: 34,
+            what: What::Watch(slot),
+        },
+        Ask::Remove(id) => Step::Remove { id },
+    })
+}
+
+/// What the edit is answered, with one watcher loaded.
+fn edit<L: Ledger>(
     rt: &impl Abort,
     alloc: Global,
     text: &mut SpannedText,
-    case: &Case,
+    ask: Ask,
+    steps: &mut Steps<L>,
+) -> Result<Verdict, NoMemory> {
+    match ask {
+        Ask::Replace(start, end, brought) => {
+            let incoming = bringing(rt, alloc, units_of(alloc, brought)?);
+            text.replace(start, end, &incoming, steps)
+        }
+        Ask::Set(id, start, end, flags, tag) => {
+            text.set_span(id, start, end, flags, What::Tag(tag), 1, steps)
+        }
+        Ask::Seat(id, slot) => text.set_span(id, 0, 0, 34, What::Watch(slot), 1, steps),
+        Ask::Remove(id) => Ok(text.remove_span(id)),
+    }
+}
+
+/// Each edit is judged and answered so.
+fn plays<L: Ledger>(
+    rt: &impl Abort,
+    alloc: Global,
+    text: &mut SpannedText,
+    cases: &[Case],
     steps: &mut Steps<L>,
 ) -> Result<(), NoMemory> {
-    judges(rt, alloc, text, case)?;
-    let (start, end, brought, verdict) = *case;
-    let incoming = bringing(rt, alloc, units_of(alloc, brought)?);
-    let done = text.replace(start, end, &incoming, steps)?;
-    assert_eq!(rt; done, verdict, "{start} {end} {brought}");
+    for (ask, verdict) in cases {
+        let step = step_of(rt, alloc, *ask)?;
+        assert_eq!(rt; text.judge(&step, 1), *verdict, "{ask:?}");
+        let answer = edit(rt, alloc, text, *ask, steps)?;
+        assert_eq!(rt; answer, *verdict, "{ask:?}");
+    }
+    Ok(())
+}
+
+/// An id, a start, an end, a flags word and a tag.
+type Tagged = (u32, u32, u32, u32, u32);
+
+/// A row with this order.
+fn row(tagged: Tagged, order: u64) -> SpanRow {
+    let (id, start, end, flags, tag) = tagged;
+    SpanRow {
+        id,
+        start,
+        end,
+        flags,
+        order,
+        what: What::Tag(tag),
+    }
+}
+
+/// The attached spans, in order of attachment.
+fn has_spans(rt: &impl Abort, text: &SpannedText, spans: &[Tagged]) {
+    assert_eq!(rt; text.span_count() as usize, spans.len());
+    for (at, span) in spans.iter().enumerate() {
+        assert!(rt; (at as u32) < text.span_count());
+        assert_eq!(rt; text.span_at(at as u32), row(*span, at as u64));
+    }
+}
+
+/// Edits from the empty text, and the spans that are attached then.
+type Script<'a> = (&'a [Case<'a>], &'a [Tagged]);
+
+/// The spans stand where the rules take them.
+fn scripts<L: Ledger>(rt: &impl Abort, alloc: Global, blank: Blank) -> Result<(), NoMemory>
+    requires name { blank.name ≡ L.name }
+    requires parts { blank.parts ≡ L.parts }
+    requires some { 0 < blank.parts }
+{
+    let mut steps = Steps::<L>::start(blank);
+    let done = Verdict::Done;
+    let scripts: [Script; 6] = [
+        (
+            &[
+                (Ask::Replace(0, 0, "hello"), done),
+                (Ask::Set(5, 1, 4, 33, 0), done),
+                (Ask::Replace(1, 4, "xy"), done),
+            ],
+            &[(5, 1, 3, 33, 0)],
+        ),
+        (
+            &[
+                (Ask::Replace(0, 0, "abcd"), done),
+                (Ask::Set(5, 2, 2, 17, 0), done),
+                (Ask::Set(6, 2, 2, 34, 0), done),
+                (Ask::Replace(2, 2, "xy"), done),
+            ],
+            &[(5, 2, 2, 17, 0), (6, 4, 4, 34, 0)],
+        ),
+        (
+            &[
+                (Ask::Replace(0, 0, "a\nb\nc"), done),
+                (Ask::Set(5, 2, 4, 51, 0), done),
+                (Ask::Replace(1, 2, ""), done),
+            ],
+            &[(5, 3, 3, 51, 0)],
+        ),
+        (
+            &[
+                (Ask::Replace(0, 0, "abc"), done),
+                (
+                    Ask::Set(5, 1, 3, 51, 0),
+                    Verdict::Refused(Refusal::ParagraphStart),
+                ),
+                (
+                    Ask::Set(5, 0, 2, 51, 0),
+                    Verdict::Refused(Refusal::ParagraphEnd),
+                ),
+                (Ask::Set(5, 0, 3, 51, 0), done),
+            ],
+            &[(5, 0, 3, 51, 0)],
+        ),
+        (
+            &[
+                (
+                    Ask::Set(1, 0, 0, 34, 0),
+                    Verdict::Refused(Refusal::Reserved),
+                ),
+                (Ask::Seat(5, 1), Verdict::Refused(Refusal::Slot)),
+                (Ask::Seat(5, 0), done),
+                (Ask::Seat(5, 0), done),
+                (Ask::Seat(6, 0), Verdict::Refused(Refusal::Slot)),
+                (Ask::Remove(5), done),
+                (Ask::Set(5, 9, 8, 16, 0), Verdict::Refused(Refusal::Flags)),
+                (Ask::Set(5, 1, 0, 33, 0), Verdict::Refused(Refusal::Order)),
+                (Ask::Set(5, -1, 1, 33, 0), Verdict::Refused(Refusal::Beyond)),
+                (Ask::Set(5, -1, -1, 33, 0), Verdict::Refused(Refusal::Below)),
+                (Ask::Set(5, 0, 0, 33, 0), Verdict::Ignored),
+                (Ask::Remove(5), Verdict::Absent),
+                (Ask::Remove(2), Verdict::Refused(Refusal::Reserved)),
+            ],
+            &[],
+        ),
+        (
+            &[
+                (Ask::Replace(0, 0, "abcd"), done),
+                (Ask::Set(5, 0, 1, 17, 1), done),
+                (Ask::Set(6, 0, 1, 17, 2), done),
+                (Ask::Set(7, 1, 2, 33, 3), done),
+                (Ask::Set(5, 2, 3, 17, 3), done),
+                (Ask::Replace(1, 3, ""), done),
+            ],
+            &[(5, 1, 1, 17, 3), (6, 0, 1, 17, 2)],
+        ),
+    ];
+    for (cases, spans) in &scripts {
+        let mut text = SpannedText::new(alloc)?;
+        plays(rt, alloc, &mut text, cases, &mut steps)?;
+        has_spans(rt, &text, spans);
+    }
     Ok(())
 }
 
@@ -66,21 +232,19 @@ fn edits<L: Ledger>(rt: &impl Abort, alloc: Global, blank: Blank) -> Result<(), 
     let mut steps = Steps::<L>::start(blank);
     let mut text = SpannedText::new(alloc)?;
     let cases = [
-        (0, 0, "hello", Verdict::Done),
-        (1, 4, "xy", Verdict::Done),
-        (2, 2, "", Verdict::NoChange),
-        (3, 1, "", Verdict::Refused(Refusal::Order)),
-        (0, 99, "", Verdict::Refused(Refusal::Beyond)),
-        (-1, 0, "", Verdict::Refused(Refusal::Below)),
-        (99, 1, "", Verdict::Refused(Refusal::Order)),
-        (-1, 99, "", Verdict::Refused(Refusal::Beyond)),
-        (-1, -1, "", Verdict::Refused(Refusal::Below)),
-        (3, 3, "z", Verdict::Done),
-        (3, 4, "", Verdict::Done),
+        (Ask::Replace(0, 0, "hello"), Verdict::Done),
+        (Ask::Replace(1, 4, "xy"), Verdict::Done),
+        (Ask::Replace(2, 2, ""), Verdict::NoChange),
+        (Ask::Replace(3, 1, ""), Verdict::Refused(Refusal::Order)),
+        (Ask::Replace(0, 99, ""), Verdict::Refused(Refusal::Beyond)),
+        (Ask::Replace(-1, 0, ""), Verdict::Refused(Refusal::Below)),
+        (Ask::Replace(99, 1, ""), Verdict::Refused(Refusal::Order)),
+        (Ask::Replace(-1, 99, ""), Verdict::Refused(Refusal::Beyond)),
+        (Ask::Replace(-1, -1, ""), Verdict::Refused(Refusal::Below)),
+        (Ask::Replace(3, 3, "z"), Verdict::Done),
+        (Ask::Replace(3, 4, ""), Verdict::Done),
     ];
-    for case in &cases {
-        replaces(rt, alloc, &mut text, case, &mut steps)?;
-    }
+    plays(rt, alloc, &mut text, &cases, &mut steps)?;
     let (left, right) = text.halves();
     assert_eq!(rt; left, [104, 120, 121, 111].as_slice());
     assert!(rt; right.is_empty());
@@ -113,14 +277,156 @@ fn fills<L: Ledger>(rt: &impl Abort, alloc: Global, blank: Blank) -> Result<(), 
     let mut steps = Steps::<L>::start(blank);
     let mut text = full(rt, alloc, &mut steps)?;
     let cases = [
-        (0, 0, "a", Verdict::Refused(Refusal::TooLong)),
-        (0, 1, "b", Verdict::Done),
+        (Ask::Replace(0, 0, "a"), Verdict::Refused(Refusal::TooLong)),
+        (Ask::Replace(0, 1, "b"), Verdict::Done),
     ];
-    for case in &cases {
-        replaces(rt, alloc, &mut text, case, &mut steps)?;
-    }
+    plays(rt, alloc, &mut text, &cases, &mut steps)?;
     assert_eq!(rt; text.len(), 1_048_576);
     Ok(())
+}
+
+/// The rows of a query, whatever their orders.
+type Query<'a> = (u32, u32, Pick, &'a [SpanRow]);
+
+/// Spans over ranges, by priority and then in order of attachment, and the edges behind places.
+fn queries<L: Ledger>(rt: &impl Abort, alloc: Global, blank: Blank) -> Result<(), NoMemory>
+    requires name { blank.name ≡ L.name }
+    requires parts { blank.parts ≡ L.parts }
+    requires some { 0 < blank.parts }
+{
+    let mut steps = Steps::<L>::start(blank);
+    let mut text = SpannedText::new(alloc)?;
+    let cases = [
+        (Ask::Replace(0, 0, "abcdef"), Verdict::Done),
+        (Ask::Set(5, 1, 3, 33, 1), Verdict::Done),
+        (Ask::Set(6, 3, 5, 65_569, 2), Verdict::Done),
+        (Ask::Set(7, 3, 3, 34, 3), Verdict::Done),
+    ];
+    plays(rt, alloc, &mut text, &cases, &mut steps)?;
+    let five = row((5, 1, 3, 33, 1), 0);
+    let six = row((6, 3, 5, 65_569, 2), 1);
+    let seven = row((7, 3, 3, 34, 3), 2);
+    let queries: [Query; 4] = [
+        (1, 4, Pick::All, &[six, five, seven]),
+        (0, 1, Pick::All, &[]),
+        (3, 3, Pick::All, &[six, five, seven]),
+        (1, 4, Pick::Watches, &[]),
+    ];
+    let mut found = Vec::new(alloc);
+    for (start, end, pick, rows) in &queries {
+        text.spans_over(*start, *end, *pick, &mut found, &mut steps)?;
+        assert_eq!(rt; found.as_slice(), *rows, "{start} {end}");
+    }
+    for (start, limit, edge) in [(1, 6, 3), (3, 5, 5), (3, 6, 5), (5, 6, 6)] {
+        assert_eq!(rt; text.next_edge(start, limit), edge, "{start} {limit}");
+    }
+    Ok(())
+}
+
+/// An edit, and what `change` says then: its numbers, and the rows removed, moved and added.
+type Told<'a> = (Ask<'a>, [u32; 3], [&'a [u32]; 3]);
+
+/// The ids of the rows removed, moved and added are these.
+fn tells(rt: &impl Abort, change: &Change, numbers: [u32; 3], ids: [&[u32]; 3]) {
+    assert_eq!(rt; [change.start, change.old_end, change.grown], numbers);
+    let [removed, moved, added] = ids;
+    assert!(rt;
+        change
+            .removed
+            .iter()
+            .map(|row| row.id)
+            .eq(removed.iter().copied())
+    );
+    assert!(rt;
+        change
+            .moved
+            .iter()
+            .map(|row| row.from.id)
+            .eq(moved.iter().copied())
+    );
+    assert!(rt;
+        change
+            .added
+            .iter()
+            .map(|row| row.id)
+            .eq(added.iter().copied())
+    );
+}
+
+/// Each edit that is done is told of, and others leave what was told.
+fn changes<L: Ledger>(rt: &impl Abort, alloc: Global, blank: Blank) -> Result<(), NoMemory>
+    requires name { blank.name ≡ L.name }
+    requires parts { blank.parts ≡ L.parts }
+    requires some { 0 < blank.parts }
+{
+    let mut steps = Steps::<L>::start(blank);
+    let mut text = SpannedText::new(alloc)?;
+    tells(rt, text.change(), [0, 0, 0], [&[], &[], &[]]);
+    let told: [Told; 9] = [
+        (Ask::Replace(0, 0, "abcd"), [0, 0, 4], [&[], &[], &[]]),
+        (Ask::Set(5, 0, 1, 17, 1), [0, 0, 0], [&[], &[], &[5]]),
+        (Ask::Set(6, 1, 2, 33, 2), [0, 0, 0], [&[], &[], &[6]]),
+        (Ask::Set(7, 3, 4, 34, 2), [0, 0, 0], [&[], &[], &[7]]),
+        (Ask::Set(6, 1, 2, 33, 2), [0, 0, 0], [&[], &[6], &[]]),
+        (Ask::Replace(1, 3, "z"), [1, 3, 1], [&[6], &[7], &[]]),
+        (Ask::Remove(6), [1, 3, 1], [&[6], &[7], &[]]),
+        (Ask::Set(7, 2, 1, 34, 2), [1, 3, 1], [&[6], &[7], &[]]),
+        (Ask::Remove(5), [0, 0, 0], [&[5], &[], &[]]),
+    ];
+    for (ask, numbers, ids) in &told {
+        let _ = edit(rt, alloc, &mut text, *ask, &mut steps)?;
+        tells(rt, text.change(), *numbers, *ids);
+    }
+    Ok(())
+}
+
+/// A text of 4,096 spans takes no other, and still gives an attached one new places.
+fn crowd<L: Ledger>(rt: &impl Abort, alloc: Global, blank: Blank) -> Result<(), NoMemory>
+    requires name { blank.name ≡ L.name }
+    requires parts { blank.parts ≡ L.parts }
+    requires some { 0 < blank.parts }
+{
+    let mut steps = Steps::<L>::start(blank);
+    let mut text = SpannedText::new(alloc)?;
+    for id in 3..4_099 {
+        let answer = edit(rt, alloc, &mut text, Ask::Set(id, 0, 0, 34, 0), &mut steps)?;
+        assert_eq!(rt; answer, Verdict::Done);
+    }
+    let cases = [
+        (
+            Ask::Set(4_099, 0, 0, 34, 0),
+            Verdict::Refused(Refusal::SpansFull),
+        ),
+        (Ask::Set(3, 0, 0, 17, 0), Verdict::Done),
+    ];
+    plays(rt, alloc, &mut text, &cases, &mut steps)?;
+    assert_eq!(rt; text.span_count(), 4_096);
+    Ok(())
+}
+
+/// Tells a follower of the last change.
+fn tell<F: Follower, L: Ledger>(
+    follower: &mut F,
+    text: &SpannedText,
+    steps: &mut Steps<L>,
+) -> Result<(), NoMemory>
+    requires { (old : State) × F.follows follower.old old × LeadsTo text.now.effect old text.now.state }
+{
+    follower.told(text, text.change(), steps)
+}
+
+/// A follower that keeps nothing is told of an edit.
+fn follows<L: Ledger>(rt: &impl Abort, alloc: Global, blank: Blank) -> Result<(), NoMemory>
+    requires name { blank.name ≡ L.name }
+    requires parts { blank.parts ≡ L.parts }
+    requires some { 0 < blank.parts }
+{
+    let mut steps = Steps::<L>::start(blank);
+    let mut text = SpannedText::new(alloc)?;
+    let _ = edit(rt, alloc, &mut text, Ask::Set(5, 0, 0, 34, 0), &mut steps)?;
+    let answer = text.remove_span(5);
+    assert_eq!(rt; answer, Verdict::Done);
+    tell(&mut Unfollowed, &text, &mut steps)
 }
 
 #[test]
@@ -132,5 +438,25 @@ fn replacements_are_judged_and_done(rt: HostRuntime) -> Result<(), Fail> {
 #[test]
 fn a_full_text_takes_a_unit_only_for_another(rt: HostRuntime) -> Result<(), Fail> {
     fills::<Brand>(&rt, rt.alloc(), Blank::new(1))?;
+    Ok(())
+}
+
+#[test]
+fn spans_stand_where_the_rules_take_them(rt: HostRuntime) -> Result<(), Fail> {
+    scripts::<Brand>(&rt, rt.alloc(), Blank::new(1))?;
+    Ok(())
+}
+
+#[test]
+fn queries_and_changes_name_the_spans(rt: HostRuntime) -> Result<(), Fail> {
+    queries::<Brand>(&rt, rt.alloc(), Blank::new(1))?;
+    changes::<Brand>(&rt, rt.alloc(), Blank::new(1))?;
+    crowd::<Brand>(&rt, rt.alloc(), Blank::new(1))?;
+    Ok(())
+}
+
+#[test]
+fn followers_are_told(rt: HostRuntime) -> Result<(), Fail> {
+    follows::<Brand>(&rt, rt.alloc(), Blank::new(1))?;
     Ok(())
 }

@@ -1,16 +1,28 @@
 //! The text with its spans.
 
-ghost use Rattle.std.specs.Prelude.{ℕ, pos, ◌≤ℤ◌, ◌≡◌, ◌≢◌, ◌≤◌, ◌<◌, ◌+◌, ◌++◌, [], false, length, slice_index, IfOk, OnOk, OnErr, IsOk};
+ghost use Rattle.std.specs.Prelude.{ℕ, pos, ◌≤ℤ◌, ◌≡◌, ◌≢◌, ◌≤◌, ◌<◌, ◌+◌, ◌++◌, [], true, false, length, slice_index, slice_get, Some, IfOk, OnOk, OnErr, IsOk};
+ghost use Rattle.std.specs.List.{All};
 ghost use Rattle.edit_base.specs.declared.verdicts.Verdict.TheVariants.{Done};
-ghost use Rattle.edit_model.specs.declared.steps.Step.TheVariants.{Replace};
+ghost use Rattle.edit_model.specs.declared.steps.Step.TheVariants.{Replace, Set, Remove};
 ghost use Rattle.edit_model.specs.State.{empty_state, text_end};
-ghost use Rattle.edit_model.specs.Verdicts.{length_after, judged};
-ghost use Rattle.edit_model.specs.Replaced.{spliced_length};
-ghost use Rattle.edit_model.specs.Changed.{no_change, stepped, change_of, on_done, state_after};
+ghost use Rattle.edit_model.specs.Attached.{is_attached};
+ghost use Rattle.edit_model.specs.WellFormed.{IsWellFormed, IsSeated};
+ghost use Rattle.edit_model.specs.Verdicts.{judged, length_after};
+ghost use Rattle.edit_model.specs.Replaced.{replaced, spliced_length};
+ghost use Rattle.edit_model.specs.Changed.{no_effect, effect_of, replaced_effect, on_done, stepped, change_of, state_after, effect_after, span_of};
+ghost use Rattle.edit_model.specs.Over.{next_edge, over};
+ghost use Rattle.replace_engine.specs.Rows.{newcomers, spans_in};
+ghost use Rattle.replace_engine.specs.Lines.{set_of};
 
+use crate::cut::Cut;
+use crate::judging::{AskedSpan, judge_remove, judge_replace, judge_set};
+use crate::moving::{boundary_behind, move_spans};
 use crate::places::place_of;
+use crate::queries::{next_edge, spans_over};
+use crate::room::make_room;
+use crate::setting::{remove_row, set_row};
 use crate::splice::splice;
-use edit_base::{Incoming, Items, Limits, NoMemory, Refusal, Steps, Verdict};
+use edit_base::{Incoming, NoMemory, Pick, SpanRow, Steps, Verdict, What};
 use edit_model::{Change, Step};
 use std::alloc::Global;
 use std::marker::Model;
@@ -20,24 +32,28 @@ use std::sync::ledger::Ledger;
 #[derive(Drop)]
 pub struct SpannedText {
     units: Vec<u16>,
+    /// In order of attachment; the order that a row carries here means nothing.
+    rows: Vec<SpanRow>,
     change: Change,
 }
 
 impl Model for SpannedText {
-    ghost use Rattle.std.specs.Prelude.{◌-◌, ◌≤◌, [], length, vec_capacity};
-    ghost use Rattle.replace_engine.specs.Seen.{Seen, HasNoRows};
+    ghost use Rattle.std.specs.Prelude.{◌-◌, length, vec_capacity};
+    ghost use Rattle.edit_model.specs.Changed.{effect_of};
+    ghost use Rattle.replace_engine.specs.Seen.{Seen};
+    ghost use Rattle.replace_engine.specs.Rows.{IsSound, span_room, state_of};
 
     ghost Value = { Seen };
 
     ghost view = { λ it. record {
-      state = record { units = it.units.items; spans = [] };
+      state = state_of it.units.items it.rows.items;
       gap = length it.units.items;
-      change = it.change;
+      effect = effect_of it.change;
       spare_units = vec_capacity it.units - length it.units.items;
-      spare_spans = 0;
+      spare_spans = span_room (vec_capacity it.rows) it.change - length it.rows.items;
     } };
 
-    ghost invariant = { λ it. (length it.units.items ≤ 1048576) × HasNoRows it.change };
+    ghost invariant = { λ it. IsSound it.units.items it.rows.items it.change };
 }
 
 impl SpannedText {
@@ -45,17 +61,18 @@ impl SpannedText {
     pub fn new(alloc: Global) -> Result<SpannedText, NoMemory>
         ensures state { IfOk result (λ text. text.state ≡ empty_state) }
         ensures gap { IfOk result (λ text. text.gap ≡ 0) }
-        ensures change { IfOk result (λ text. text.change ≡ no_change) }
+        ensures effect { IfOk result (λ text. text.effect ≡ no_effect) }
     {
         Ok(SpannedText {
             units: Vec::new(alloc),
+            rows: Vec::new(alloc),
             change: Change {
                 start: 0,
                 old_end: 0,
                 grown: 0,
-                removed: Items::from_vec(Vec::new(alloc)),
-                moved: Items::from_vec(Vec::new(alloc)),
-                added: Items::from_vec(Vec::new(alloc)),
+                removed: Vec::new(alloc),
+                moved: Vec::new(alloc),
+                added: Vec::new(alloc),
             },
         })
     }
@@ -64,6 +81,7 @@ impl SpannedText {
     pub fn len(&self) -> u32
         ensures len { result ≡ length self.now.state.units }
         ensures limit { result ≤ 1048576 }
+        ensures well_formed { IsWellFormed self.now.state }
     {
         self.units.len() as u32
     }
@@ -84,6 +102,58 @@ impl SpannedText {
         self.units.as_slice().split_at(self.units.len())
     }
 
+    /// How many spans are attached.
+    #[tactic(auto, using(crate::proofs::Lists::lengths))]
+    pub fn span_count(&self) -> u32
+        ensures count { result ≡ length self.now.state.spans }
+        ensures limit { result ≤ 4096 }
+    {
+        self.rows.len() as u32
+    }
+
+    /// The span at a place of the order of attachment, with that place as its order.
+    pub fn span_at(&self, i: u32) -> SpanRow
+        requires { i < length self.now.state.spans }
+        ensures span { slice_get self.now.state.spans i ≡ Some (span_of result) }
+        ensures order { result.order ≡ i }
+    {
+        SpanRow {
+            order: u64::from(i),
+            ..self.rows[i as usize]
+        }
+    }
+
+    /// The spans over a range that are picked, by priority, highest first, and then in order of attachment. `out` is
+    /// cleared first, and empty where there is no memory.
+    pub fn spans_over<L: Ledger>(
+        &self,
+        qs: u32,
+        qe: u32,
+        pick: Pick,
+        out: &mut Vec<SpanRow>,
+        steps: &mut Steps<L>,
+    ) -> Result<(), NoMemory>
+        ensures ok { OnOk result (spans_in out.new.items ≡ over qs qe pick self.now.state.spans) }
+        ensures orders { All (λ row. slice_get self.now.state.spans row.order ≡ Some (span_of row)) out.new.items }
+        ensures err { OnErr result (out.new.items ≡ []) }
+    {
+        spans_over(&self.rows, qs, qe, pick, out)
+    }
+
+    /// The least place behind `start` and below `limit` where a span starts or ends, else `limit`.
+    pub fn next_edge(&self, start: u32, limit: u32) -> u32
+        ensures { result ≡ next_edge start limit self.now.state.spans }
+    {
+        next_edge(&self.rows, start, limit)
+    }
+
+    /// What the last edit that was done changed.
+    pub fn change(&self) -> &Change
+        ensures { effect_of result.now ≡ self.now.effect }
+    {
+        &self.change
+    }
+
     /// The verdict of an edit that isn't nested, with so many watchers loaded and its incoming text filtered already.
     pub fn judge(&self, step: &Step, slots: u8) -> Verdict
         ensures { result ≡ judged self.now.state slots step.now }
@@ -93,13 +163,31 @@ impl SpannedText {
                 start,
                 end,
                 incoming,
-            } => self.judge_replace(*start, *end, incoming),
+            } => judge_replace(&self.units, *start, *end, incoming),
+            Step::Set {
+                id,
+                start,
+                end,
+                flags,
+                what,
+            } => {
+                let asked = AskedSpan {
+                    id: *id,
+                    start: *start,
+                    end: *end,
+                    flags: *flags,
+                    what: *what,
+                };
+                judge_set(&self.units, &self.rows, &asked, slots)
+            }
+            Step::Remove { id } => judge_remove(&self.rows, *id),
         }
     }
 
-    /// Makes the units from `start` to `end` the incoming ones, where the verdict is done; else nothing changes. No
-    /// memory is asked for where the incoming units fit the spare ones.
-    #[tactic(auto, using(crate::proofs::Done::by_verdict))]
+    /// Makes the units from `start` to `end` the incoming ones, where the verdict is done; else nothing changes. Spans
+    /// that may not be empty and are emptied go, and the ends of the others move. No memory is asked for where the
+    /// incoming units fit the spare ones.
+    #[tactic(auto, using(crate::proofs::Done::by_verdict), unfolding(edit_model::specs::Changed::stepped, edit_model::specs::Changed::change_of))]
     pub fn replace<L: Ledger>(
         &mut self,
         start: i32,
@@ -112,11 +200,10 @@ impl SpannedText {
         requires composing { incoming.now.composing ≡ false }
         ensures verdict { IfOk result (λ verdict. verdict ≡ judged self.old.state 0 (Replace start end incoming.now)) }
         ensures state { OnOk result (self.new.state ≡ state_after self.old.state 0 (Replace start end incoming.now)) }
-        ensures change { OnOk result (self.new.change
-            ≡ on_done (judged self.old.state 0 (Replace start end incoming.now))
-            (change_of self.old.state (Replace start end incoming.now)) self.old.change) }
+        ensures effect { OnOk result (self.new.effect
+            ≡ effect_after self.old.state 0 (Replace start end incoming.now) self.old.effect) }
         ensures gap_stays { IfOk result (λ verdict. verdict ≢ Done → self.new.gap ≡ self.old.gap) }
-        ensures err { OnErr result ((self.new.state ≡ self.old.state) × (self.new.change ≡ self.old.change)
+        ensures err { OnErr result ((self.new.state ≡ self.old.state) × (self.new.effect ≡ self.old.effect)
             × (self.new.gap ≡ self.old.gap)) }
 
         // Within the spare units it succeeds, and a replacement takes at most as many of them as it brings.
@@ -125,8 +212,11 @@ impl SpannedText {
             ≤ self.new.spare_units + on_done verdict (length incoming.now.units) 0) }
         ensures spare_stays { OnErr result (self.old.spare_units ≤ self.new.spare_units) }
         ensures spare_spans { self.old.spare_spans ≤ self.new.spare_spans }
+
+        ensures well_formed { IsWellFormed self.new.state }
+        ensures seated { (slots : ℕ) → IsSeated slots self.old.state.spans → IsSeated slots self.new.state.spans }
     {
-        let verdict = self.judge_replace(start, end, incoming);
+        let verdict = self.judge_replacement(start, end, incoming);
         let Verdict::Done = verdict else {
             return Ok(verdict);
         };
@@ -135,62 +225,183 @@ impl SpannedText {
     }
 
     /// The verdict of a replacement that isn't nested.
-    #[tactic(auto, unfolding(edit_model::specs::Verdicts::judged))]
-    fn judge_replace(&self, start: i32, end: i32, incoming: &Incoming) -> Verdict
+    fn judge_replacement(&self, start: i32, end: i32, incoming: &Incoming) -> Verdict
         ensures verdict { (slots : ℕ) → result ≡ judged self.now.state slots (Replace start end incoming.now) }
         ensures least { result ≡ Done → pos 0 ≤ℤ start }
         ensures order { result ≡ Done → start ≤ℤ end }
         ensures within { result ≡ Done → end ≤ℤ text_end self.now.state }
         ensures limit { result ≡ Done → length_after self.now.state start end incoming.now ≤ 1048576 }
+        ensures well_formed { IsWellFormed self.now.state }
     {
-        let len = self.units.len() as i64;
-        let (start, end) = (i64::from(start), i64::from(end));
-        if end < start {
-            return Verdict::Refused(Refusal::Order);
-        }
-        if start > len || end > len {
-            return Verdict::Refused(Refusal::Beyond);
-        }
-        if start < 0 || end < 0 {
-            return Verdict::Refused(Refusal::Below);
-        }
-        if start == end && incoming.units.is_empty() {
-            return Verdict::NoChange;
-        }
-        let kept = self.units.len() - (end - start) as usize;
-        if incoming.units.len() > Limits::TEXT as usize - kept {
-            return Verdict::Refused(Refusal::TooLong);
-        }
-        Verdict::Done
+        judge_replace(&self.units, start, end, incoming)
     }
 
     /// The units from `start` to `end` become the incoming ones, and the change says so. Without memory nothing changes,
     /// and none is asked for where the incoming units fit the spare ones.
-    #[tactic(auto, unfolding(edit_model::specs::Changed::stepped, edit_model::specs::Changed::change_of))]
     fn exchange(&mut self, start: u32, end: u32, incoming: &Incoming) -> Result<(), NoMemory>
         requires order { start ≤ end }
         requires within { end ≤ length self.old.state.units }
         requires limit { spliced_length (length self.old.state.units) start end (length incoming.now.units) ≤ 1048576 }
-        ensures state { OnOk result (self.new.state
-            ≡ stepped self.old.state (Replace (pos start) (pos end) incoming.now)) }
-        ensures change { OnOk result (self.new.change
-            ≡ change_of self.old.state (Replace (pos start) (pos end) incoming.now)) }
-        ensures err { OnErr result ((self.new.state ≡ self.old.state) × (self.new.change ≡ self.old.change)
+        ensures state { OnOk result (self.new.state ≡ replaced self.old.state start end incoming.now) }
+        ensures effect { OnOk result (self.new.effect
+            ≡ replaced_effect self.old.state start end (length incoming.now.units)) }
+        ensures err { OnErr result ((self.new.state ≡ self.old.state) × (self.new.effect ≡ self.old.effect)
             × (self.new.gap ≡ self.old.gap)) }
         ensures room { length incoming.now.units ≤ self.old.spare_units → IsOk result }
         ensures spare_units { OnOk result (self.old.spare_units ≤ self.new.spare_units + length incoming.now.units) }
         ensures spare_stays { OnErr result (self.old.spare_units ≤ self.new.spare_units) }
         ensures spare_spans { self.old.spare_spans ≤ self.new.spare_spans }
+        ensures well_formed { IsWellFormed self.new.state }
+        ensures seated { (slots : ℕ) → IsSeated slots self.old.state.spans → IsSeated slots self.new.state.spans }
     {
+        let kept = self.units.len() - (end - start) as usize;
+        make_room(&mut self.units, kept + incoming.units.len())?;
+        let cut = Cut {
+            units: &self.units,
+            start,
+            end,
+            grown: incoming.units.len() as u32,
+            boundary: boundary_behind(&self.units, &self.rows, end),
+        };
+        move_spans(&mut self.rows, &cut, &mut self.change);
         splice(
             &mut self.units,
             start as usize,
             end as usize,
             incoming.units.as_slice(),
-        )?;
-        self.change.start = start;
-        self.change.old_end = end;
-        self.change.grown = incoming.units.len() as u32;
+        );
         Ok(())
+    }
+
+    /// Gives an attached span these places, flags and what, in its place of the order, or attaches a span behind all
+    /// others, where the verdict is done; else nothing changes. No memory is asked for where the id is attached, or a
+    /// spare span is left.
+    #[tactic(auto, using(crate::proofs::Done::by_verdict))]
+    pub fn set_span<L: Ledger>(
+        &mut self,
+        id: u32,
+        start: i32,
+        end: i32,
+        flags: u32,
+        what: What,
+        slots: u8,
+        steps: &mut Steps<L>,
+    ) -> Result<Verdict, NoMemory>
+        ensures verdict { IfOk result (λ verdict. verdict ≡ judged self.old.state slots (Set id start end flags what)) }
+        ensures state { OnOk result (self.new.state ≡ state_after self.old.state slots (Set id start end flags what)) }
+        ensures effect { OnOk result (self.new.effect
+            ≡ effect_after self.old.state slots (Set id start end flags what) self.old.effect) }
+        ensures gap { self.new.gap ≡ self.old.gap }
+        ensures err { OnErr result ((self.new.state ≡ self.old.state) × (self.new.effect ≡ self.old.effect)) }
+
+        // Of an attached id, or within the spare spans, it succeeds, and it takes at most one of them.
+        ensures attached { is_attached id self.old.state.spans ≡ true → IsOk result }
+        ensures room { 0 < self.old.spare_spans → IsOk result }
+        ensures spare_spans { IfOk result (λ verdict. self.old.spare_spans
+            ≤ self.new.spare_spans + on_done verdict (newcomers id self.old.state.spans) 0) }
+        ensures spare_stays { OnErr result (self.old.spare_spans ≤ self.new.spare_spans) }
+        ensures spare_units { self.old.spare_units ≤ self.new.spare_units }
+
+        ensures well_formed { IsWellFormed self.new.state }
+        ensures seated { IsSeated slots self.old.state.spans → IsSeated slots self.new.state.spans }
+    {
+        let asked = AskedSpan {
+            id,
+            start,
+            end,
+            flags,
+            what,
+        };
+        let verdict = self.judge_setting(&asked, slots);
+        let Verdict::Done = verdict else {
+            return Ok(verdict);
+        };
+        self.attach(&asked, slots)?;
+        Ok(verdict)
+    }
+
+    /// The verdict of a set.
+    fn judge_setting(&self, asked: &AskedSpan, slots: u8) -> Verdict
+        ensures verdict { result ≡ judged self.now.state slots (set_of asked.now) }
+        ensures starts { result ≡ Done → pos 0 ≤ℤ asked.now.start }
+        ensures ends { result ≡ Done → pos 0 ≤ℤ asked.now.end }
+        ensures well_formed { IsWellFormed self.now.state }
+    {
+        judge_set(&self.units, &self.rows, asked, slots)
+    }
+
+    /// Sets a span whose set is done with so many watchers loaded, and the change says so. Without memory nothing
+    /// changes, and none is asked for where the id is attached, or a spare span is left.
+    #[tactic(auto, unfolding(edit_model::specs::Changed::stepped, edit_model::specs::Changed::change_of))]
+    fn attach(&mut self, asked: &AskedSpan, slots: u8) -> Result<(), NoMemory>
+        requires done { judged self.old.state slots (set_of asked.now) ≡ Done }
+        requires starts { pos 0 ≤ℤ asked.now.start }
+        requires ends { pos 0 ≤ℤ asked.now.end }
+        ensures state { OnOk result (self.new.state ≡ stepped self.old.state (set_of asked.now)) }
+        ensures effect { OnOk result (self.new.effect ≡ change_of self.old.state (set_of asked.now)) }
+        ensures gap { self.new.gap ≡ self.old.gap }
+        ensures err { OnErr result ((self.new.state ≡ self.old.state) × (self.new.effect ≡ self.old.effect)) }
+        ensures attached { is_attached asked.now.id self.old.state.spans ≡ true → IsOk result }
+        ensures room { 0 < self.old.spare_spans → IsOk result }
+        ensures spare_spans { OnOk result (self.old.spare_spans
+            ≤ self.new.spare_spans + newcomers asked.now.id self.old.state.spans) }
+        ensures spare_stays { OnErr result (self.old.spare_spans ≤ self.new.spare_spans) }
+        ensures spare_units { self.old.spare_units ≤ self.new.spare_units }
+        ensures well_formed { IsWellFormed self.new.state }
+        ensures seated { IsSeated slots self.old.state.spans → IsSeated slots self.new.state.spans }
+    {
+        let row = SpanRow {
+            id: asked.id,
+            start: place_of(asked.start),
+            end: place_of(asked.end),
+            flags: asked.flags,
+            order: 0,
+            what: asked.what,
+        };
+        set_row(&mut self.rows, &row, &mut self.change)?;
+        Ok(())
+    }
+
+    /// Removes an attached span, where the verdict is done; else nothing changes. No memory is asked for.
+    #[tactic(auto, using(crate::proofs::Done::by_verdict))]
+    pub fn remove_span(&mut self, id: u32) -> Verdict
+        ensures verdict { (slots : ℕ) → result ≡ judged self.old.state slots (Remove id) }
+        ensures state { self.new.state ≡ state_after self.old.state 0 (Remove id) }
+        ensures effect { self.new.effect ≡ effect_after self.old.state 0 (Remove id) self.old.effect }
+        ensures gap { self.new.gap ≡ self.old.gap }
+        ensures spare_units { self.old.spare_units ≤ self.new.spare_units }
+        ensures spare_spans { self.old.spare_spans ≤ self.new.spare_spans }
+        ensures well_formed { IsWellFormed self.new.state }
+        ensures seated { (slots : ℕ) → IsSeated slots self.old.state.spans → IsSeated slots self.new.state.spans }
+    {
+        let verdict = self.judge_removal(id);
+        let Verdict::Done = verdict else {
+            return verdict;
+        };
+        self.detach(id);
+        verdict
+    }
+
+    /// The verdict of a removal.
+    fn judge_removal(&self, id: u32) -> Verdict
+        ensures verdict { (slots : ℕ) → result ≡ judged self.now.state slots (Remove id) }
+        ensures well_formed { IsWellFormed self.now.state }
+    {
+        judge_remove(&self.rows, id)
+    }
+
+    /// Removes a span whose removal is done, and the change says so.
+    #[tactic(auto, unfolding(edit_model::specs::Changed::stepped, edit_model::specs::Changed::change_of))]
+    fn detach(&mut self, id: u32)
+        requires { judged self.old.state 0 (Remove id) ≡ Done }
+        ensures state { self.new.state ≡ stepped self.old.state (Remove id) }
+        ensures effect { self.new.effect ≡ change_of self.old.state (Remove id) }
+        ensures gap { self.new.gap ≡ self.old.gap }
+        ensures spare_units { self.old.spare_units ≤ self.new.spare_units }
+        ensures spare_spans { self.old.spare_spans ≤ self.new.spare_spans }
+        ensures well_formed { IsWellFormed self.new.state }
+        ensures seated { (slots : ℕ) → IsSeated slots self.old.state.spans → IsSeated slots self.new.state.spans }
+    {
+        remove_row(&mut self.rows, id, &mut self.change);
     }
 }

@@ -1,22 +1,15 @@
 -- How the runs of lines join.
-use Rattle.std.proofs.Common.{◌≡◌, ℕ, ℤ, ◌+◌, codes, List, [], ◌∷◌, ◌++◌, length, take, Option, Some, None, IfSome, Bool, true, false, cond, refl, sym, ap, ◌∙◌, append_assoc, arith, ◌==◌}
+use Rattle.std.proofs.Common.{◌≡◌, ℕ, ◌+◌, List, [], ◌∷◌, ◌++◌, length, take, Option, Some, None, IfSome, Bool, true, false, cond, refl, sym, ap, ◌∙◌, append_assoc, arith, ◌==◌}
 use Rattle.std.proofs.lemmas.Bool.Decides.{nat_tests}
 use Rattle.std.specs.List.{concat}
 use Rattle.std.proofs.lemmas.List.{append-nil}
 use Rattle.std.proofs.Math.Seq.{take-append-add}
-use Rattle.edit_base.specs.declared.rows.Incoming.{Incoming}
 use Rattle.edit_model.specs.State.{State}
 use Rattle.edit_model.specs.declared.commands.Command.{Command}
-use Rattle.edit_model.specs.declared.commands.Command.TheVariants as commands
-use Rattle.edit_model.specs.declared.entries.LogEntry.{LogEntry}
-use Rattle.edit_model.specs.declared.steps.Step.TheVariants as step
-use Rattle.edit_model.specs.Verdicts.{judged}
-use Rattle.edit_model.specs.Changed.{state_after}
-use Rattle.edit_model.specs.Log.{entry_of}
-use Rattle.edit_model.specs.Printed.{header_line, entry_line, end_block}
+use Rattle.edit_model.specs.Printed.{end_block}
 use Rattle.edit_model.specs.Lines.{trace_lines, is_blank}
 use Rattle.edit_model.specs.Reading.{read_command, IsFitting}
-use Rattle.edit_model.specs.Output.{Line, blank, command, faulty, as_line, line_of, line_run, run_lines, Played, Ending, finished, faulty_line, behind, bytes_of, command_bytes, state_behind, log_of}
+use Rattle.edit_model.specs.Output.{Line, blank, command, faulty, as_line, line_of, line_run, run_lines, Played, Ending, finished, faulty_line, behind, bytes_of, command_bytes, state_behind}
 use Rattle.edit_model.proofs.Readings.{fits-read_command}
 use Rattle.replay_io.specs.Outside.{with_more}
 use Rattle.replay_cli.specs.declared.player.LineEnd.{LineEnd}
@@ -169,24 +162,6 @@ pub faulty-stops : (number : ℕ) (state : State) (line : List ℕ) (known : Opt
 faulty-stops number state line known is = λ lines.
     let e = run-line number state line lines faulty is in
     (refl, ap (λ played. played.ending) e, with_more-none known ∙ ap (λ played. with_more known (bytes_of played)) (sym e))
-
--- ---- a replacement
-
-pub replaced-bytes : (number : ℕ) (state : State) (start end : ℤ) (incoming : Incoming) (before between after : List ℕ) (entry : LogEntry)
-    → between ≡ before ++ header_line number (codes "replace") → after ≡ between ++ entry_line entry
-    → entry ≡ entry_of state 0 (step.Replace start end incoming) (judged state 0 (step.Replace start end incoming))
-    → after ≡ before ++ command_bytes number state (commands.Replace start end incoming)
-unfolding log_of
-replaced-bytes number state start end incoming before between after entry header line is =
-    let bytes = entry_line (entry_of state 0 (step.Replace start end incoming) (judged state 0 (step.Replace start end incoming))) in
-    line ∙ ap (λ front. front ++ entry_line entry) header ∙ ap (λ e. (before ++ header_line number (codes "replace")) ++ entry_line e) is
-    ∙ append_assoc before (header_line number (codes "replace")) bytes
-    ∙ ap (λ back. before ++ (header_line number (codes "replace") ++ back)) (sym (append-nil bytes))
-
-pub replaced-state : (state after : State) (start end : ℤ) (incoming : Incoming) → after ≡ state_after state 0 (step.Replace start end incoming)
-    → after ≡ state_behind state (commands.Replace start end incoming)
-unfolding state_behind
-replaced-state state after start end incoming is = is
 
 -- ---- the end of the trace
 

@@ -1,6 +1,7 @@
 //! Replays a recorded trace of edits over an editable text, and prints what each command did and the text at the end.
 #![tactic(auto)]
 
+mod commands;
 mod lines;
 mod player;
 mod printing;
@@ -8,6 +9,7 @@ mod reading;
 mod run;
 mod status;
 
+pub use commands::{Room, print_end, run_command};
 pub use lines::{TraceLine, first_line, is_blank_line, read_line};
 pub use player::{LineEnd, play_lines, run_line};
 pub use printing::{print_entry, print_header, print_units};

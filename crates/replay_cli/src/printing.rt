@@ -5,11 +5,12 @@
 ghost use Rattle.std.specs.Prelude.{ℕ, ◌≡◌, List, ◌<◌, ◌++◌, OnOk, OnErr, codes, decimal};
 ghost use Rattle.std.specs.List.{flat_map};
 ghost use Rattle.std.specs.Fmt.{signed_decimal};
-ghost use Rattle.edit_model.specs.Printed.{spaced, line_end, hex_digit, escaped, unit_text, text_line, refusal_name, has_number, refusal_text, logged_text, header_line, entry_line};
+ghost use Rattle.edit_model.specs.Changed.{span_of};
+ghost use Rattle.edit_model.specs.Printed.{spaced, line_end, hex_digit, escaped, unit_text, text_line, refusal_name, has_number, refusal_text, logged_text, header_line, entry_line, reply_text, what_text, span_line};
 ghost use Rattle.replay_cli.specs.Appended.{Extends};
 
-use edit_base::{NoMemory, Refusal, Verdict};
-use edit_model::{LogEntry, Logged};
+use edit_base::{NoMemory, Refusal, SpanRow, Verdict, What};
+use edit_model::{LogEntry, Logged, Reply};
 use itoa::Buffer;
 
 /// Appends the first line of the command on a trace line: the line's number, and the operation's name. Without memory
@@ -36,8 +37,42 @@ pub fn print_entry(entry: &LogEntry, out: &mut Vec<u8>) -> Result<(), NoMemory>
             end,
             units,
             logged,
-        } => { push_replace(*depth, *start, *end, *units, logged, out) }
+        } => push_replace(*depth, *start, *end, *units, logged, out),
+        LogEntry::Set {
+            depth,
+            id,
+            start,
+            end,
+            flags,
+            logged,
+        } => push_set(*depth, *id, *start, *end, *flags, logged, out),
+        LogEntry::Remove { depth, id, logged } => push_remove(*depth, *id, logged, out),
     }
+}
+
+/// Appends the line of a reply. Without memory a part of the line may stand in `out`.
+pub fn print_reply(reply: &Reply, out: &mut Vec<u8>) -> Result<(), NoMemory>
+    ensures ok { OnOk result (out.new.items ≡ out.old.items ++ reply_text reply.now) }
+    ensures err { OnErr result ((more : List ℕ) × (out.new.items ≡ out.old.items ++ more)) }
+{
+    match reply {
+        Reply::Verdict(logged) => {
+            push("reply", out)?;
+            push_ending(logged, out)
+        }
+        Reply::Found(count) => push_numbered("found", *count, out),
+        Reply::Edge(place) => push_numbered("edge", *place, out),
+    }
+}
+
+/// Appends the line of one span. Without memory a part of the line may stand in `out`.
+pub fn print_span(row: &SpanRow, out: &mut Vec<u8>) -> Result<(), NoMemory>
+    ensures ok { OnOk result (out.new.items ≡ out.old.items ++ span_line (span_of row.now)) }
+    ensures err { OnErr result ((more : List ℕ) × (out.new.items ≡ out.old.items ++ more)) }
+{
+    push_row(row, out)?;
+    push_what(row.what, out)?;
+    push("\n", out)
 }
 
 /// Appends the line of a text that stands in two slices: how many units it has, and the units between quotes. Without
@@ -91,6 +126,17 @@ fn push_signed(number: i64, out: &mut Vec<u8>) -> Result<(), NoMemory>
     push_word(Buffer::new().format(number), out)
 }
 
+// A line of a word and a number.
+fn push_numbered(word: &str, number: u32, out: &mut Vec<u8>) -> Result<(), NoMemory>
+    ensures ok { OnOk result (out.new.items
+        ≡ out.old.items ++ (word.now ++ spaced (decimal number) ++ line_end)) }
+    ensures err { OnErr result (Extends out.old.items out.new.items) }
+{
+    push(word, out)?;
+    push_number(number, out)?;
+    push("\n", out)
+}
+
 // ---- edits and verdicts
 
 fn push_replace(
@@ -107,13 +153,40 @@ fn push_replace(
 {
     push_edit(depth, "replace", out)?;
     push_places(start, end, out)?;
-    push_number(units, out)?;
-    push_ending(logged, out)
+    push_numbered_ending(units, logged, out)
+}
+
+fn push_set(
+    depth: u32,
+    id: u32,
+    start: i64,
+    end: i64,
+    flags: u32,
+    logged: &Logged,
+    out: &mut Vec<u8>,
+) -> Result<(), NoMemory>
+    ensures ok { OnOk result (out.new.items
+        ≡ out.old.items ++ entry_line (LogEntry.Set depth id start end flags logged.now)) }
+    ensures err { OnErr result (Extends out.old.items out.new.items) }
+{
+    push_edit(depth, "set", out)?;
+    push_number(id, out)?;
+    push_places(start, end, out)?;
+    push_numbered_ending(flags, logged, out)
+}
+
+fn push_remove(depth: u32, id: u32, logged: &Logged, out: &mut Vec<u8>) -> Result<(), NoMemory>
+    ensures ok { OnOk result (out.new.items
+        ≡ out.old.items ++ entry_line (LogEntry.Remove depth id logged.now)) }
+    ensures err { OnErr result (Extends out.old.items out.new.items) }
+{
+    push_edit(depth, "remove", out)?;
+    push_numbered_ending(id, logged, out)
 }
 
 fn push_edit(depth: u32, name: &str, out: &mut Vec<u8>) -> Result<(), NoMemory>
     ensures ok { OnOk result (out.new.items
-        ≡ out.old.items ++ codes "edit" ++ spaced (decimal depth) ++ spaced name.now) }
+        ≡ out.old.items ++ (codes "edit" ++ spaced (decimal depth) ++ spaced name.now)) }
     ensures err { OnErr result (Extends out.old.items out.new.items) }
 {
     push("edit", out)?;
@@ -123,15 +196,25 @@ fn push_edit(depth: u32, name: &str, out: &mut Vec<u8>) -> Result<(), NoMemory>
 
 fn push_places(start: i64, end: i64, out: &mut Vec<u8>) -> Result<(), NoMemory>
     ensures ok { OnOk result (out.new.items
-        ≡ out.old.items ++ spaced (signed_decimal start) ++ spaced (signed_decimal end)) }
+        ≡ out.old.items ++ (spaced (signed_decimal start) ++ spaced (signed_decimal end))) }
     ensures err { OnErr result (Extends out.old.items out.new.items) }
 {
     push_signed(start, out)?;
     push_signed(end, out)
 }
 
+// The last number of an edit, and then its verdict.
+fn push_numbered_ending(number: u32, logged: &Logged, out: &mut Vec<u8>) -> Result<(), NoMemory>
+    ensures ok { OnOk result (out.new.items
+        ≡ out.old.items ++ (spaced (decimal number) ++ logged_text logged.now ++ line_end)) }
+    ensures err { OnErr result (Extends out.old.items out.new.items) }
+{
+    push_number(number, out)?;
+    push_ending(logged, out)
+}
+
 fn push_ending(logged: &Logged, out: &mut Vec<u8>) -> Result<(), NoMemory>
-    ensures ok { OnOk result (out.new.items ≡ out.old.items ++ logged_text logged.now ++ line_end) }
+    ensures ok { OnOk result (out.new.items ≡ out.old.items ++ (logged_text logged.now ++ line_end)) }
     ensures err { OnErr result (Extends out.old.items out.new.items) }
 {
     push_logged(logged, out)?;
@@ -193,6 +276,57 @@ fn is_numbered(refusal: Refusal) -> bool
         refusal,
         Refusal::Order | Refusal::Beyond | Refusal::Below | Refusal::TooLong | Refusal::SpansFull
     )
+}
+
+// ---- spans
+
+// The first word and the numbers of a span.
+fn push_row(row: &SpanRow, out: &mut Vec<u8>) -> Result<(), NoMemory>
+    ensures ok { OnOk result (out.new.items
+        ≡ out.old.items ++ (codes "span" ++ spaced (decimal row.now.id) ++ spaced (decimal row.now.start)
+        ++ spaced (decimal row.now.end) ++ spaced (decimal row.now.flags))) }
+    ensures err { OnErr result (Extends out.old.items out.new.items) }
+{
+    push("span", out)?;
+    push_number(row.id, out)?;
+    push_number(row.start, out)?;
+    push_number(row.end, out)?;
+    push_number(row.flags, out)
+}
+
+// A what, behind a space.
+fn push_what(what: What, out: &mut Vec<u8>) -> Result<(), NoMemory>
+    ensures ok { OnOk result (out.new.items ≡ out.old.items ++ spaced (what_text what)) }
+    ensures err { OnErr result (Extends out.old.items out.new.items) }
+{
+    match what {
+        What::Tag(number) => push_one("tag", number, out),
+        What::Face(number) => push_one("face", u32::from(number), out),
+        What::Margin { first, rest } => push_two("margin", first, rest, out),
+        What::Float { margin, lines } => push_two("float", margin, lines, out),
+        What::Watch(slot) => push_one("watch", u32::from(slot), out),
+        What::SelStart => push_word("sel-start", out),
+        What::SelEnd => push_word("sel-end", out),
+        What::Composing => push_word("composing", out),
+    }
+}
+
+fn push_one(name: &str, number: u32, out: &mut Vec<u8>) -> Result<(), NoMemory>
+    ensures ok { OnOk result (out.new.items
+        ≡ out.old.items ++ spaced (name.now ++ spaced (decimal number))) }
+    ensures err { OnErr result (Extends out.old.items out.new.items) }
+{
+    push_word(name, out)?;
+    push_number(number, out)
+}
+
+fn push_two(name: &str, left: u16, right: u16, out: &mut Vec<u8>) -> Result<(), NoMemory>
+    ensures ok { OnOk result (out.new.items
+        ≡ out.old.items ++ spaced (name.now ++ spaced (decimal left) ++ spaced (decimal right))) }
+    ensures err { OnErr result (Extends out.old.items out.new.items) }
+{
+    push_one(name, u32::from(left), out)?;
+    push_number(u32::from(right), out)
 }
 
 // ---- units
@@ -306,6 +440,139 @@ mod tests {
             edit 0 replace 0 0 1 refused depth\n\
             text 4 \"hxyo\"\n\
             text 9 \"a\\u0022\\u005c\\u000a\\u00e9\\ud83d~\\u007f \"\n";
+        assert_eq!(rt; out.as_slice(), want.as_bytes());
+        Ok(())
+    }
+
+    #[test]
+    fn prints_edits_of_spans(rt: HostRuntime) -> Result<(), Fail> {
+        let refused = Logged {
+            verdict: Verdict::Refused(Refusal::SpansFull),
+            number: 4097,
+        };
+        let entries = [
+            LogEntry::Set {
+                depth: 0,
+                id: 5,
+                start: 1,
+                end: 4,
+                flags: 33,
+                logged: plain(Verdict::Done),
+            },
+            LogEntry::Set {
+                depth: 0,
+                id: 4099,
+                start: 0,
+                end: 0,
+                flags: 34,
+                logged: refused,
+            },
+            LogEntry::Set {
+                depth: 2,
+                id: 4_294_967_295,
+                start: -1,
+                end: 0,
+                flags: 4_294_967_295,
+                logged: plain(Verdict::Refused(Refusal::Flags)),
+            },
+            LogEntry::Set {
+                depth: 0,
+                id: 5,
+                start: 0,
+                end: 0,
+                flags: 33,
+                logged: plain(Verdict::Ignored),
+            },
+            LogEntry::Remove {
+                depth: 0,
+                id: 5,
+                logged: plain(Verdict::Absent),
+            },
+            LogEntry::Remove {
+                depth: 0,
+                id: 2,
+                logged: plain(Verdict::Refused(Refusal::Reserved)),
+            },
+        ];
+        let mut out = Vec::new(rt.alloc());
+        for entry in &entries {
+            print_entry(entry, &mut out)?;
+        }
+        let want = "edit 0 set 5 1 4 33 done\n\
+            edit 0 set 4099 0 0 34 refused spans-full 4097\n\
+            edit 2 set 4294967295 -1 0 4294967295 refused flags\n\
+            edit 0 set 5 0 0 33 ignored\n\
+            edit 0 remove 5 absent\n\
+            edit 0 remove 2 refused reserved\n";
+        assert_eq!(rt; out.as_slice(), want.as_bytes());
+        Ok(())
+    }
+
+    // A verdict without a number.
+    fn plain(verdict: Verdict) -> Logged {
+        Logged { verdict, number: 0 }
+    }
+
+    #[test]
+    fn prints_replies_and_spans(rt: HostRuntime) -> Result<(), Fail> {
+        let mut out = Vec::new(rt.alloc());
+        let refused = Logged {
+            verdict: Verdict::Refused(Refusal::Order),
+            number: 6,
+        };
+        for reply in [Reply::Found(3), Reply::Edge(5), Reply::Verdict(refused)] {
+            print_reply(&reply, &mut out)?;
+        }
+        let spans = [
+            (6, 3, 5, 65_569, What::Tag(2)),
+            (1, 7, 7, 34, What::SelEnd),
+            (
+                5,
+                8,
+                8,
+                17,
+                What::Margin {
+                    first: 20,
+                    rest: 20,
+                },
+            ),
+            (
+                7,
+                0,
+                9,
+                51,
+                What::Float {
+                    margin: 65_535,
+                    lines: 3,
+                },
+            ),
+            (20, 0, 2, 33, What::Face(1)),
+            (8, 4, 4, 18, What::Watch(255)),
+            (0, 7, 7, 34, What::SelStart),
+            (2, 0, 1, 33, What::Composing),
+        ];
+        for (id, start, end, flags, what) in spans {
+            let row = SpanRow {
+                id,
+                start,
+                end,
+                flags,
+                order: 12,
+                what,
+            };
+            print_span(&row, &mut out)?;
+        }
+        let want = "found 3\n\
+            edge 5\n\
+            reply refused order 6\n\
+            span 6 3 5 65569 tag 2\n\
+            span 1 7 7 34 sel-end\n\
+            span 5 8 8 17 margin 20 20\n\
+            span 7 0 9 51 float 65535 3\n\
+            span 20 0 2 33 face 1\n\
+            span 8 4 4 18 watch 255\n\
+            span 0 7 7 34 sel-start\n\
+            span 2 0 1 33 composing\n";
         assert_eq!(rt; out.as_slice(), want.as_bytes());
         Ok(())
     }

@@ -1,11 +1,13 @@
 //! What a line of a trace asks for.
 
-ghost use Rattle.std.specs.Prelude.{◌≡◌, IfOk, length, option_map};
+ghost use Rattle.std.specs.Prelude.{◌≡◌, IfOk, length, option_map, decimal};
+ghost use Rattle.std.specs.Str.{bytes_eq};
 ghost use Rattle.serde_json.specs.View.{view};
-ghost use Rattle.edit_model.specs.Reading.{json_of, member_count, place_in, text_in, has_op, plain_incoming, replace_in, read_command};
+ghost use Rattle.edit_model.specs.Reading.{json_of, member_count, place_in, text_in, id_in, whole_number, greatest_id, as_what, what_in, has_op, is_operation, plain_incoming, replace_in, set_span_in, remove_span_in, spans_over_in, next_edge_in, command_in, read_command};
 
-use edit_base::{Incoming, Items, Limits, NoMemory, units_of};
+use edit_base::{Incoming, Items, Limits, NoMemory, What, units_of};
 use edit_model::Command;
+use itoa::Buffer;
 use serde_json::Value;
 use std::alloc::Global;
 
@@ -21,7 +23,7 @@ pub fn command_of(alloc: Global, line: &[u8]) -> Result<Option<Command>, NoMemor
         return Ok(None);
     }
     match value_of(alloc, line)? {
-        Some(value) => replace_of(alloc, &value),
+        Some(value) => operation_of(alloc, &value),
         None => Ok(None),
     }
 }
@@ -42,12 +44,29 @@ fn value_of(alloc: Global, line: &[u8]) -> Result<Option<Value>, NoMemory>
     }
 }
 
+// ---- operations
+
+fn operation_of(alloc: Global, value: &Value) -> Result<Option<Command>, NoMemory>
+    ensures { IfOk result (λ found. found ≡ command_in (view value.now)) }
+{
+    if asks_for(value, "replace", 4) {
+        replace_of(alloc, value)
+    } else if asks_for(value, "set_span", 6) {
+        Ok(set_span_of(value))
+    } else if asks_for(value, "remove_span", 2) {
+        Ok(remove_span_of(value))
+    } else if asks_for(value, "spans_over", 3) {
+        Ok(spans_over_of(value))
+    } else if asks_for(value, "next_edge", 3) {
+        Ok(next_edge_of(value))
+    } else {
+        Ok(None)
+    }
+}
+
 fn replace_of(alloc: Global, value: &Value) -> Result<Option<Command>, NoMemory>
     ensures { IfOk result (λ found. found ≡ replace_in (view value.now)) }
 {
-    if count_members(value) != 4 || !is_op(value, "replace") {
-        return Ok(None);
-    }
     let Some(start) = place_of(value, "start") else {
         return Ok(None);
     };
@@ -64,14 +83,60 @@ fn replace_of(alloc: Global, value: &Value) -> Result<Option<Command>, NoMemory>
     }))
 }
 
-fn incoming_of(alloc: Global, units: Items<u16>) -> Incoming
-    ensures { result ≡ plain_incoming units }
+fn set_span_of(value: &Value) -> Option<Command>
+    ensures { result ≡ set_span_in (view value.now) }
 {
-    Incoming {
-        units,
-        spans: Items::from_vec(Vec::new(alloc)),
-        composing: false,
-    }
+    let id = id_of(value, "id")?;
+    let start = place_of(value, "start")?;
+    let end = place_of(value, "end")?;
+    let flags = id_of(value, "flags")?;
+    let what = what_of(value, "what")?;
+    Some(Command::SetSpan {
+        id,
+        start,
+        end,
+        flags,
+        what,
+    })
+}
+
+fn remove_span_of(value: &Value) -> Option<Command>
+    ensures { result ≡ remove_span_in (view value.now) }
+{
+    let id = id_of(value, "id")?;
+    Some(Command::RemoveSpan { id })
+}
+
+fn spans_over_of(value: &Value) -> Option<Command>
+    ensures { result ≡ spans_over_in (view value.now) }
+{
+    let start = place_of(value, "start")?;
+    let end = place_of(value, "end")?;
+    Some(Command::SpansOver { start, end })
+}
+
+fn next_edge_of(value: &Value) -> Option<Command>
+    ensures { result ≡ next_edge_in (view value.now) }
+{
+    let start = place_of(value, "start")?;
+    let limit = place_of(value, "limit")?;
+    Some(Command::NextEdge { start, limit })
+}
+
+// Whether a value's `op` is this name, and it has so many members in all.
+fn asks_for(value: &Value, name: &str, members: usize) -> bool
+    ensures { result ≡ is_operation name.now members (view value.now) }
+{
+    is_op(value, name) && count_members(value) == members
+}
+
+fn is_op(value: &Value, name: &str) -> bool
+    ensures { result ≡ has_op name.now (view value.now) }
+{
+    value
+        .get("op")
+        .and_then(Value::as_str)
+        .is_some_and(|op| op == name)
 }
 
 #[tactic(auto, using(crate::proofs::Json::json))]
@@ -84,20 +149,27 @@ fn count_members(value: &Value) -> usize
     }
 }
 
-fn is_op(value: &Value, name: &str) -> bool
-    ensures { result ≡ has_op name.now (view value.now) }
-{
-    value
-        .get("op")
-        .and_then(Value::as_str)
-        .is_some_and(|op| op == name)
-}
+// ---- fields
 
 fn place_of(value: &Value, field: &str) -> Option<i32>
     ensures { result ≡ place_in field.now (view value.now) }
 {
     let number = value.get(field)?.as_i64()?;
     i32::try_from(number).ok()
+}
+
+// An id or a flags word.
+fn id_of(value: &Value, field: &str) -> Option<u32>
+    ensures { result ≡ id_in field.now (view value.now) }
+{
+    let number = value.get(field)?.as_u64()?;
+    u32::try_from(number).ok()
+}
+
+fn what_of(value: &Value, field: &str) -> Option<What>
+    ensures { result ≡ what_in field.now (view value.now) }
+{
+    what_from(value.get(field)?.as_str()?)
 }
 
 fn text_of(alloc: Global, value: &Value, field: &str) -> Result<Option<Items<u16>>, NoMemory>
@@ -113,13 +185,53 @@ fn text_of(alloc: Global, value: &Value, field: &str) -> Result<Option<Items<u16
     Ok(Some(Items::from_vec(units)))
 }
 
+fn incoming_of(alloc: Global, units: Items<u16>) -> Incoming
+    ensures { result ≡ plain_incoming units }
+{
+    Incoming {
+        units,
+        spans: Items::from_vec(Vec::new(alloc)),
+        composing: false,
+    }
+}
+
+// ---- words
+
+// `tag` and a number, with one space between.
+fn what_from(words: &str) -> Option<What>
+    ensures { result ≡ as_what words.now }
+{
+    let number = number_from(words.strip_prefix("tag ")?)?;
+    Some(What::Tag(number))
+}
+
+// A number of 32 bits: decimal digits without a sign or a leading zero.
+fn number_from(digits: &str) -> Option<u32>
+    ensures { result ≡ whole_number greatest_id digits.now }
+{
+    let number: u32 = digits.parse().ok()?;
+    if is_written(number, digits) {
+        Some(number)
+    } else {
+        None
+    }
+}
+
+// Whether a number's own form is these digits.
+fn is_written(number: u32, digits: &str) -> bool
+    ensures { result ≡ bytes_eq (decimal number) digits.now }
+{
+    Buffer::new().format(number) == digits
+}
+
 #[cfg(test)]
 mod tests {
     use super::*;
+    use std::alloc::AllocError;
     use std::test::Fail;
 
     #[test]
-    fn reads_commands_alone(rt: HostRuntime) -> Result<(), Fail> {
+    fn reads_replacements(rt: HostRuntime) -> Result<(), Fail> {
         let commands = [
             (
                 r#"{"op":"replace","start":0,"end":0,"text":"hello"}"#,
@@ -172,7 +284,10 @@ mod tests {
                 start,
                 end,
                 incoming,
-            } = command;
+            } = command
+            else {
+                return Err(Fail::from(line));
+            };
             let units = units_of(rt.alloc(), text)?;
             assert!(rt; start == from && end == to, "{line}");
             assert_eq!(rt; incoming.units.as_slice(), units.as_slice(), "{line}");
@@ -213,6 +328,143 @@ mod tests {
         assert!(rt; command_of(rt.alloc(), &line)?.is_some());
         line.push(b' ')?;
         assert!(rt; command_of(rt.alloc(), &line)?.is_none());
+        Ok(())
+    }
+
+    // A command on spans in short words.
+    fn shown(alloc: Global, found: &Option<Command>) -> Result<String, AllocError> {
+        match found {
+            Some(
+                Command::SetSpan {
+                    id,
+                    start,
+                    end,
+                    flags,
+                    what,
+                },
+            ) => format!(in alloc; "set {id} {start} {end} {flags} {what:?}"),
+            Some(Command::RemoveSpan { id }) => format!(in alloc; "remove {id}"),
+            Some(Command::SpansOver { start, end }) => format!(in alloc; "over {start} {end}"),
+            Some(Command::NextEdge { start, limit }) => format!(in alloc; "edge {start} {limit}"),
+            Some(Command::Replace { .. }) => String::from_str(alloc, "replace"),
+            None => String::from_str(alloc, "none"),
+        }
+    }
+
+    #[test]
+    fn reads_commands_on_spans(rt: HostRuntime) -> Result<(), Fail> {
+        let lines = [
+            (
+                r#"{"op":"set_span","id":5,"start":1,"end":3,"flags":33,"what":"tag 1"}"#,
+                "set 5 1 3 33 Tag(1)",
+            ),
+            (
+                r#"{"what":"tag 2","flags":4294967295,"end":-2147483648,"start":2147483647,"id":4294967295,"op":"set_span"}"#,
+                "set 4294967295 2147483647 -2147483648 4294967295 Tag(2)",
+            ),
+            (
+                r#"{"op":"set_span","id":0,"start":-1,"end":0,"flags":0,"what":"t\u0061g 3"}"#,
+                "set 0 -1 0 0 Tag(3)",
+            ),
+            (
+                r#"{"op":"remove_span","id":4294967295}"#,
+                "remove 4294967295",
+            ),
+            (r#"{"op":"spans_over","start":1,"end":4}"#, "over 1 4"),
+            (r#"{"op":"spans_over","start":-5,"end":-6}"#, "over -5 -6"),
+            (r#"{"op":"next_edge","start":1,"limit":6}"#, "edge 1 6"),
+            (r#"{"limit":0,"start":3,"op":"next_edge"}"#, "edge 3 0"),
+        ];
+        for (line, want) in lines {
+            let found = command_of(rt.alloc(), line.as_bytes())?;
+            let words = shown(rt.alloc(), &found)?;
+            assert_eq!(rt; words.as_str(), want, "at {line}");
+        }
+        let others = [
+            r#"{"op":"set_span","start":1,"end":3,"flags":33,"what":"tag 1"}"#,
+            r#"{"op":"set_span","id":5,"start":1,"end":3,"flags":33}"#,
+            r#"{"op":"set_span","id":5,"start":1,"end":3,"flags":33,"what":"tag 1","text":""}"#,
+            r#"{"op":"set_span","id":5,"start":1,"limit":3,"flags":33,"what":"tag 1"}"#,
+            r#"{"op":"set_span","id":-1,"start":1,"end":3,"flags":33,"what":"tag 1"}"#,
+            r#"{"op":"set_span","id":4294967296,"start":1,"end":3,"flags":33,"what":"tag 1"}"#,
+            r#"{"op":"set_span","id":"5","start":1,"end":3,"flags":33,"what":"tag 1"}"#,
+            r#"{"op":"set_span","id":-0,"start":1,"end":3,"flags":33,"what":"tag 1"}"#,
+            r#"{"op":"set_span","id":5,"start":2147483648,"end":3,"flags":33,"what":"tag 1"}"#,
+            r#"{"op":"set_span","id":5,"start":1,"end":3,"flags":1.0,"what":"tag 1"}"#,
+            r#"{"op":"set_span","id":5,"start":1,"end":3,"flags":33,"what":1}"#,
+            r#"{"op":"set_spans","id":5,"start":1,"end":3,"flags":33,"what":"tag 1"}"#,
+            r#"{"op":"remove_span"}"#,
+            r#"{"op":"remove_span","id":-1}"#,
+            r#"{"op":"remove_span","id":5,"start":0}"#,
+            r#"{"op":"spans_over","start":1}"#,
+            r#"{"op":"spans_over","start":1,"limit":4}"#,
+            r#"{"op":"spans_over","start":1,"end":4,"limit":4}"#,
+            r#"{"op":"next_edge","start":1,"end":6}"#,
+            r#"{"op":"next_edge","start":1,"limit":"6"}"#,
+        ];
+        for line in others {
+            assert!(rt;
+                command_of(rt.alloc(), line.as_bytes())?.is_none(),
+                "{line}"
+            );
+        }
+        Ok(())
+    }
+
+    // The number of the tag that a set was read with.
+    fn tag_of(found: Option<Command>) -> Option<u32> {
+        match found {
+            Some(
+                Command::SetSpan {
+                    what: What::Tag(number),
+                    ..
+                },
+            ) => Some(number),
+            _ => None,
+        }
+    }
+
+    #[test]
+    fn a_tag_is_one_word_and_one_number(rt: HostRuntime) -> Result<(), Fail> {
+        let texts = [
+            ("tag 0", Some(0)),
+            ("tag 7", Some(7)),
+            ("tag 10", Some(10)),
+            ("tag 4294967295", Some(4_294_967_295)),
+            ("tag 4294967296", None),
+            ("tag 18446744073709551617", None),
+            ("tag 01", None),
+            ("tag 00", None),
+            ("tag +1", None),
+            ("tag -1", None),
+            ("tag 1.0", None),
+            ("tag 1e2", None),
+            ("tag 0x1", None),
+            ("tag :", None),
+            ("tag \u{661}", None),
+            ("tag  1", None),
+            ("tag 1 ", None),
+            (" tag 1", None),
+            ("tag\\t1", None),
+            ("tag 1 2", None),
+            ("Tag 1", None),
+            ("tag1", None),
+            ("tag ", None),
+            ("tag", None),
+            ("", None),
+            ("1", None),
+            ("face 1", None),
+            ("margin 20 0", None),
+            ("watch 0", None),
+            ("sel-start", None),
+        ];
+        for (text, want) in texts {
+            let line = format!(in rt.alloc();
+                r#"{{"op":"set_span","id":5,"start":0,"end":0,"flags":34,"what":"{text}"}}"#
+            )?;
+            let found = command_of(rt.alloc(), line.as_bytes())?;
+            assert_eq!(rt; tag_of(found), want, "at {text}");
+        }
         Ok(())
     }
 }

@@ -33,6 +33,72 @@ const FAULTY: &str = r#"{"op":"replace","start":0,"end":0,"text":"a"}
 
 const FIRST_LETTER: &str = "> 1 replace\nedit 0 replace 0 0 1 done\n";
 
+// Traces over spans, each with lines that stand in its output.
+const SPANS: [(&str, &str); 7] = [
+    // A range that is exactly the span doesn't empty it.
+    (
+        r#"{"op":"replace","start":0,"end":0,"text":"hello"}
+{"op":"set_span","id":5,"start":1,"end":4,"flags":33,"what":"tag 0"}
+{"op":"replace","start":1,"end":4,"text":"xy"}"#,
+        "> 1 replace\nedit 0 replace 0 0 5 done\n> 2 set_span\nedit 0 set 5 1 4 33 done\n\
+        > 3 replace\nedit 0 replace 1 4 2 done\nend\ntext 4 \"hxyo\"\nspan 5 1 3 33 tag 0\n",
+    ),
+    // Both ends of an empty mark stay, and both ends of an empty point go on.
+    (
+        r#"{"op":"replace","start":0,"end":0,"text":"abcd"}
+{"op":"set_span","id":5,"start":2,"end":2,"flags":17,"what":"tag 0"}
+{"op":"set_span","id":6,"start":2,"end":2,"flags":34,"what":"tag 0"}
+{"op":"replace","start":2,"end":2,"text":"xy"}"#,
+        "text 6 \"abxycd\"\nspan 5 2 2 17 tag 0\nspan 6 4 4 34 tag 0\n",
+    ),
+    // A paragraph end whose line feed goes is pulled to the next one.
+    (
+        r#"{"op":"replace","start":0,"end":0,"text":"a\nb\nc"}
+{"op":"set_span","id":5,"start":2,"end":4,"flags":51,"what":"tag 0"}
+{"op":"replace","start":1,"end":2,"text":""}"#,
+        "text 4 \"ab\\u000ac\"\nspan 5 3 3 51 tag 0\n",
+    ),
+    (
+        r#"{"op":"replace","start":0,"end":0,"text":"abc"}
+{"op":"set_span","id":5,"start":1,"end":3,"flags":51,"what":"tag 0"}
+{"op":"set_span","id":5,"start":0,"end":3,"flags":51,"what":"tag 0"}"#,
+        "edit 0 set 5 1 3 51 refused paragraph-start\n> 3 set_span\nedit 0 set 5 0 3 51 done\n",
+    ),
+    // The order of the table of verdicts, over the empty text.
+    (
+        r#"{"op":"set_span","id":1,"start":0,"end":0,"flags":34,"what":"tag 0"}
+{"op":"set_span","id":5,"start":0,"end":0,"flags":16,"what":"tag 0"}
+{"op":"set_span","id":5,"start":0,"end":0,"flags":33,"what":"tag 0"}
+{"op":"remove_span","id":5}"#,
+        "> 1 set_span\nedit 0 set 1 0 0 34 refused reserved\n\
+        > 2 set_span\nedit 0 set 5 0 0 16 refused flags\n\
+        > 3 set_span\nedit 0 set 5 0 0 33 ignored\n> 4 remove_span\nedit 0 remove 5 absent\nend\n",
+    ),
+    // Queries: by priority and then in order of attachment, the next edge, and a refused range.
+    (
+        r#"{"op":"replace","start":0,"end":0,"text":"abcdef"}
+{"op":"set_span","id":5,"start":1,"end":3,"flags":33,"what":"tag 1"}
+{"op":"set_span","id":6,"start":3,"end":5,"flags":65569,"what":"tag 2"}
+{"op":"set_span","id":7,"start":3,"end":3,"flags":34,"what":"tag 3"}
+{"op":"spans_over","start":1,"end":4}
+{"op":"spans_over","start":0,"end":1}
+{"op":"next_edge","start":1,"limit":6}
+{"op":"next_edge","start":3,"limit":5}
+{"op":"spans_over","start":4,"end":2}"#,
+        "> 5 spans_over\nfound 3\nspan 6 3 5 65569 tag 2\nspan 5 1 3 33 tag 1\nspan 7 3 3 34 tag 3\n\
+        > 6 spans_over\nfound 0\n> 7 next_edge\nedge 3\n> 8 next_edge\nedge 5\n\
+        > 9 spans_over\nreply refused order 6\nend\n",
+    ),
+    // A set of an attached span keeps its place in the order.
+    (
+        r#"{"op":"replace","start":0,"end":0,"text":"abcd"}
+{"op":"set_span","id":5,"start":0,"end":1,"flags":17,"what":"tag 1"}
+{"op":"set_span","id":6,"start":0,"end":1,"flags":17,"what":"tag 2"}
+{"op":"set_span","id":5,"start":2,"end":3,"flags":17,"what":"tag 3"}"#,
+        "end\ntext 4 \"abcd\"\nspan 5 2 3 17 tag 3\nspan 6 0 1 17 tag 2\n",
+    ),
+];
+
 fn texts(alloc: Global, words: &[&str]) -> Result<Vec<String>, Fail> {
     let mut texts = Vec::new(alloc);
     for word in words {
@@ -92,6 +158,40 @@ fn traces_give_their_output_and_status(rt: HostRuntime) -> Result<(), Fail> {
         assert_eq!(rt; status, want, "at {trace}");
         assert_eq!(rt; written.as_slice(), output.as_bytes(), "at {trace}");
     }
+    Ok(())
+}
+
+#[test]
+fn spans_follow_the_text(rt: HostRuntime) -> Result<(), Fail> {
+    for (trace, lines) in SPANS {
+        let (status, written) = played(rt.alloc(), trace.as_bytes(), &[], &[])?;
+        assert_eq!(rt; status, Status::Done, "at {trace}");
+        assert!(rt;
+            has_part(written.as_slice(), lines.as_bytes()),
+            "at {trace}"
+        );
+    }
+    Ok(())
+}
+
+fn has_part(bytes: &[u8], part: &[u8]) -> bool {
+    (0..bytes.len()).any(|at| bytes.get(at..).is_some_and(|rest| rest.starts_with(part)))
+}
+
+#[test]
+fn spans_stay_within_their_limit(rt: HostRuntime) -> Result<(), Fail> {
+    let mut trace = Vec::new(rt.alloc());
+    for id in 3..4_100u32 {
+        let line = format!(in rt.alloc();
+            "{{\"op\":\"set_span\",\"id\":{id},\"start\":0,\"end\":0,\"flags\":34,\"what\":\"tag 0\"}}\n"
+        )?;
+        trace.extend_from_slice(line.as_bytes())?;
+    }
+    let (status, written) = played(rt.alloc(), trace.as_slice(), &[], &[])?;
+    assert_eq!(rt; status, Status::Done);
+    let wanted =
+        "edit 0 set 4098 0 0 34 done\n> 4097 set_span\nedit 0 set 4099 0 0 34 refused spans-full 4097\nend\n";
+    assert!(rt; has_part(written.as_slice(), wanted.as_bytes()));
     Ok(())
 }
 

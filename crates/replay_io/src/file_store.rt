@@ -13,7 +13,7 @@ use std::io::{ErrorKind, Read};
 use std::marker::Model;
 use std::rt::Files;
 
-/// The files of the system. It tells no bytes.
+/// The files of the system. It tells no bytes: what a file holds, no clause can say.
 ///
 /// Before a file is begun a call hands out no byte. A `begin_read` answers `NoMemory` where the system tells want of
 /// memory, or where there is none for the name.

@@ -1,6 +1,6 @@
 //! A store in memory, some of whose calls fail.
 
-ghost use Rattle.std.specs.Prelude.{◌≡◌, ◌≤◌, ◌↔◌, map, length, IsTrue, IsErr, IfOk, OnOk, OnErr, true, false};
+ghost use Rattle.std.specs.Prelude.{◌≡◌, ◌≤◌, ◌↔◌, map, length, IsErr, IfOk, OnOk, OnErr, true, false};
 ghost use Rattle.replay_io.specs.Stored.{file_of, handed};
 ghost use Rattle.replay_io.specs.Counted.{is_listed};
 ghost use Rattle.replay_io.specs.Memory.{fresh, refuses, begun, refused, took, failed};

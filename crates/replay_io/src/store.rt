@@ -1,6 +1,6 @@
 //! Where files are read from.
 
-ghost use Rattle.std.specs.Prelude.{ℕ, ◌≡◌, ◌≤◌, ◌<◌, ◌++◌, [], ◌∷◌, List, Option, Some, None, length, IfOk, OnOk, OnErr};
+ghost use Rattle.std.specs.Prelude.{ℕ, ◌≡◌, ◌≤◌, ◌<◌, ◌++◌, [], ◌∷◌, List, Option, length, IfOk, OnOk, OnErr};
 ghost use Rattle.replay_io.specs.Outside.{Asked, begun_name, refused_name, Rose, HandsOut};
 
 use crate::faults::{Failed, ReadFault};

@@ -1,6 +1,6 @@
 //! Files in memory, one of which is read.
 
-ghost use Rattle.std.specs.Prelude.{◌≡◌, ◌≤◌, ◌++◌, [], ◌∷◌, map, min, length, take, OnOk, OnErr};
+ghost use Rattle.std.specs.Prelude.{◌≡◌, ◌≤◌, map, min, length, take, OnOk, OnErr};
 ghost use Rattle.replay_io.specs.Stored.{file_of, place_of, bytes_at, is_there, unread, after_begin, after_refusal, handed, after_piece};
 
 use crate::asked::AskedNames;

@@ -1,10 +1,11 @@
 -- Each computes.
 use Rattle.std.proofs.Common.{refl}
+use Rattle.std.specs.Fmt.{digits}
 use Rattle.std.specs.Str.{is_utf8, chars}
 use Rattle.serde_json.proofs.OnLiterals.{serde_json_on_literals}
 use Rattle.edit_model.specs.Reading.{read_command}
 use Rattle.edit_model.proofs.examples.reads_lines.Goals as goal
 
 pub returns : goal.returns
-unfolding serde_json_on_literals is_utf8 chars read_command
-returns c = (refl, refl, refl)
+unfolding serde_json_on_literals is_utf8 chars digits read_command
+returns c = (refl, refl, refl, refl, refl, refl)

@@ -1,0 +1,31 @@
+-- Lists of rows, and the spans that they stand for.
+use Rattle.std.proofs.Common.{◌≡◌, ℕ, ◌||◌, ◌&&◌, Bool, true, false, not, cond, List, [], ◌∷◌, map, refl, ap, ◌∙◌}
+use Rattle.std.specs.List.{filter, list_any}
+use Rattle.std.proofs.lemmas.List.{length-map}
+use Rattle.edit_base.specs.declared.rows.SpanRow.{SpanRow}
+use Rattle.edit_model.specs.Attached.{has_id, is_attached}
+use Rattle.edit_model.specs.Changed.{span_of}
+use Rattle.edit_model.specs.Verdicts.{watches}
+use Rattle.replace_engine.specs.Rows.{spans_in}
+
+pub list_any-map : {X Y : Type 0} (f : X → Y) (test : Y → Bool) (xs : List X) → list_any test (map f xs) ≡ list_any (λ x. test (f x)) xs
+list_any-map f test [] = refl
+list_any-map f test (x ∷ xs) = ap (λ rest. test (f x) || rest) (list_any-map f test xs)
+
+pub filter-map : {X Y : Type 0} (f : X → Y) (test : Y → Bool) (xs : List X) → filter test (map f xs) ≡ map f (filter (λ x. test (f x)) xs)
+filter-map f test [] = refl
+filter-map f test (x ∷ xs) = ap (λ rest. cond (test (f x)) (f x ∷ rest) rest) (filter-map f test xs)
+    ∙ filter_back f test x xs
+  where
+    filter_back : {X Y : Type 0} (f : X → Y) (test : Y → Bool) (x : X) (xs : List X) → cond (test (f x)) (f x ∷ map f (filter (λ y. test (f y)) xs)) (map f (filter (λ y. test (f y)) xs))
+        ≡ map f (cond (test (f x)) (x ∷ filter (λ y. test (f y)) xs) (filter (λ y. test (f y)) xs))
+    filter_back f test x xs = elim (test (f x)) as (λ b. cond b (f x ∷ map f (filter (λ y. test (f y)) xs)) (map f (filter (λ y. test (f y)) xs)) ≡ map f (cond b (x ∷ filter (λ y. test (f y)) xs) (filter (λ y. test (f y)) xs))) [ true ↦ refl | false ↦ refl ]
+
+pub attached-rows : (id : ℕ) (rows : List SpanRow) → is_attached id (spans_in rows) ≡ list_any (λ row. has_id id (span_of row)) rows
+attached-rows id rows = list_any-map span_of (has_id id) rows
+
+pub seats-rows : (id slot : ℕ) (rows : List SpanRow) → list_any (λ span. not (has_id id span) && watches slot span.what) (spans_in rows)
+    ≡ list_any (λ row. not (has_id id (span_of row)) && watches slot row.what) rows
+seats-rows id slot rows = list_any-map span_of (λ span. not (has_id id span) && watches slot span.what) rows
+
+pub ruleset lengths = (length-map)

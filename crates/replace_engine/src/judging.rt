@@ -1,0 +1,214 @@
+//! The verdicts of edits: each the first line of a table that applies.
+
+ghost use Rattle.std.specs.Prelude.{ℕ, List, pos, ◌≤ℤ◌, ◌≡◌, ◌≤◌, ◌<◌, ◌&&◌, not, [], length};
+ghost use Rattle.std.specs.List.{list_any};
+ghost use Rattle.edit_base.specs.declared.verdicts.Verdict.TheVariants.{Done};
+ghost use Rattle.edit_model.specs.declared.steps.Step.TheVariants.{Replace, Set, Remove};
+ghost use Rattle.edit_model.specs.State.{Span, place};
+ghost use Rattle.edit_model.specs.Attached.{has_id, is_attached};
+ghost use Rattle.edit_model.specs.Boundaries.{is_boundary};
+ghost use Rattle.edit_model.specs.Flags.{is_bad, kind_of, is_paragraph, is_point_mark};
+ghost use Rattle.edit_model.specs.Replaced.{spliced_length};
+ghost use Rattle.edit_model.specs.Verdicts.{first_of, judged, lacks_slot, spans_after, watches};
+ghost use Rattle.edit_model.specs.WellFormed.{is_kept_what};
+ghost use Rattle.replace_engine.specs.Rows.{spans_in, state_of};
+ghost use Rattle.replace_engine.specs.Lines.{kind_lines, place_lines};
+
+use crate::boundaries::is_boundary;
+use crate::places::place_of;
+use edit_base::{Incoming, Limits, Refusal, SpanRow, Verdict, What};
+use span_flags::{Kind, flags_of, kind_of_word};
+
+/// A span as it is asked for, its places not looked at yet.
+#[derive(Clone, Copy, Debug)]
+pub struct AskedSpan {
+    pub id: u32,
+    pub start: i32,
+    pub end: i32,
+    pub flags: u32,
+    pub what: What,
+}
+
+/// The verdict of a replacement of the units from `start` to `end`.
+#[tactic(auto, unfolding(edit_model::specs::Verdicts::judged))]
+pub fn judge_replace(units: &[u16], start: i32, end: i32, incoming: &Incoming) -> Verdict
+    requires { length units.now ≤ 1048576 }
+    ensures verdict { (slots : ℕ) (spans : List Span)
+        → result ≡ judged (record { units = units.now; spans = spans }) slots (Replace start end incoming.now) }
+    ensures least { result ≡ Done → pos 0 ≤ℤ start }
+    ensures order { result ≡ Done → start ≤ℤ end }
+    ensures within { result ≡ Done → end ≤ℤ pos (length units.now) }
+    ensures limit { result ≡ Done
+        → spliced_length (length units.now) (place start) (place end) (length incoming.now.units) ≤ 1048576 }
+{
+    let len = units.len() as i64;
+    let (start, end) = (i64::from(start), i64::from(end));
+    if end < start {
+        return Verdict::Refused(Refusal::Order);
+    }
+    if start > len || end > len {
+        return Verdict::Refused(Refusal::Beyond);
+    }
+    if start < 0 || end < 0 {
+        return Verdict::Refused(Refusal::Below);
+    }
+    if start == end && incoming.units.is_empty() {
+        return Verdict::NoChange;
+    }
+    let kept = units.len() - (end - start) as usize;
+    if incoming.units.len() > Limits::TEXT as usize - kept {
+        return Verdict::Refused(Refusal::TooLong);
+    }
+    Verdict::Done
+}
+
+/// The verdict of a set, with so many watchers loaded.
+#[tactic(auto, unfolding(edit_model::specs::Verdicts::judged))]
+pub fn judge_set(units: &[u16], rows: &[SpanRow], asked: &AskedSpan, slots: u8) -> Verdict
+    requires text { length units.now ≤ 1048576 }
+    requires spans { length rows.now ≤ 4096 }
+    ensures verdict { result ≡ judged (state_of units.now rows.now) slots
+        (Set asked.now.id asked.now.start asked.now.end asked.now.flags asked.now.what) }
+    ensures starts { result ≡ Done → pos 0 ≤ℤ asked.now.start }
+    ensures ends { result ≡ Done → pos 0 ≤ℤ asked.now.end }
+{
+    if asked.id < 3 || is_kept_what(asked.what) {
+        return Verdict::Refused(Refusal::Reserved);
+    }
+    if lacks_slot(rows, asked.id, asked.what, slots) {
+        return Verdict::Refused(Refusal::Slot);
+    }
+    if is_bad(asked.flags) {
+        return Verdict::Refused(Refusal::Flags);
+    }
+    judge_places(units, rows, asked)
+}
+
+/// The verdict of a set whose id, what and flags are free to it.
+fn judge_places(units: &[u16], rows: &[SpanRow], asked: &AskedSpan) -> Verdict
+    requires text { length units.now ≤ 1048576 }
+    requires spans { length rows.now ≤ 4096 }
+    ensures verdict { result ≡ first_of (place_lines (state_of units.now rows.now) asked.now) }
+    ensures starts { result ≡ Done → pos 0 ≤ℤ asked.now.start }
+    ensures ends { result ≡ Done → pos 0 ≤ℤ asked.now.end }
+{
+    let len = units.len() as i64;
+    let (start, end) = (i64::from(asked.start), i64::from(asked.end));
+    if end < start {
+        return Verdict::Refused(Refusal::Order);
+    }
+    if start > len || end > len {
+        return Verdict::Refused(Refusal::Beyond);
+    }
+    if start < 0 || end < 0 {
+        return Verdict::Refused(Refusal::Below);
+    }
+    judge_kind(units, rows, asked)
+}
+
+/// The verdict of a set whose places lie in the text too.
+fn judge_kind(units: &[u16], rows: &[SpanRow], asked: &AskedSpan) -> Verdict
+    requires spans { length rows.now ≤ 4096 }
+    requires starts { pos 0 ≤ℤ asked.now.start }
+    requires ends { pos 0 ≤ℤ asked.now.end }
+    ensures { result ≡ first_of (kind_lines (state_of units.now rows.now) asked.now) }
+{
+    if breaks_paragraph(units, asked.flags, place_of(asked.start)) {
+        return Verdict::Refused(Refusal::ParagraphStart);
+    }
+    if breaks_paragraph(units, asked.flags, place_of(asked.end)) {
+        return Verdict::Refused(Refusal::ParagraphEnd);
+    }
+    if is_point_mark(kind_of_word(asked.flags)) && asked.start == asked.end {
+        return Verdict::Ignored;
+    }
+    if spans_after(rows, asked.id) > Limits::SPANS as usize {
+        return Verdict::Refused(Refusal::SpansFull);
+    }
+    Verdict::Done
+}
+
+/// How many spans are attached after a set of this id.
+#[tactic(auto, using(crate::proofs::Lists::lengths))]
+fn spans_after(rows: &[SpanRow], id: u32) -> usize
+    requires { length rows.now ≤ 4096 }
+    ensures { result ≡ spans_after (state_of [] rows.now) id }
+{
+    if is_attached(rows, id) {
+        rows.len()
+    } else {
+        rows.len() + 1
+    }
+}
+
+/// The verdict of a removal.
+#[tactic(auto, unfolding(edit_model::specs::Verdicts::judged))]
+pub fn judge_remove(rows: &[SpanRow], id: u32) -> Verdict
+    ensures { (units : List ℕ) (slots : ℕ) → result ≡ judged (state_of units rows.now) slots (Remove id) }
+{
+    if id < 3 {
+        return Verdict::Refused(Refusal::Reserved);
+    }
+    if !is_attached(rows, id) {
+        return Verdict::Absent;
+    }
+    Verdict::Done
+}
+
+/// Whether a span with this id is attached.
+pub fn is_attached(rows: &[SpanRow], id: u32) -> bool
+    ensures { result ≡ is_attached id (spans_in rows.now) }
+{
+    rows.iter().any(|row| row.id == id)
+}
+
+/// Whether this what watches, and has no slot or one that another span watches for.
+fn lacks_slot(rows: &[SpanRow], id: u32, what: What, slots: u8) -> bool
+    ensures { (units : List ℕ) → result ≡ lacks_slot (state_of units rows.now) slots id what }
+{
+    match what {
+        What::Watch(slot) => slot >= slots || is_seat_taken(rows, id, slot),
+        _ => false,
+    }
+}
+
+/// Whether a span of another id watches for this slot.
+fn is_seat_taken(rows: &[SpanRow], id: u32, slot: u8) -> bool
+    ensures { result ≡ list_any (λ span. not (has_id id span) && watches slot span.what) (spans_in rows.now) }
+{
+    rows.iter()
+        .any(|row| row.id != id && watches(row.what, slot))
+}
+
+fn watches(what: What, slot: u8) -> bool
+    ensures { result ≡ watches slot what }
+{
+    matches!(what, What::Watch(other) if other == slot)
+}
+
+fn is_kept_what(what: What) -> bool
+    ensures { result ≡ is_kept_what what }
+{
+    matches!(what, What::SelStart | What::SelEnd | What::Composing)
+}
+
+/// Whether a paragraph span may not start or end at this place.
+fn breaks_paragraph(units: &[u16], flags: u32, at: u32) -> bool
+    ensures { result ≡ (is_paragraph (kind_of flags) && not (is_boundary units.now at)) }
+{
+    matches!(kind_of_word(flags), Kind::Paragraph) && !is_boundary(units, at)
+}
+
+/// Whether a flags word is bad.
+fn is_bad(flags: u32) -> bool
+    ensures { result ≡ is_bad flags }
+{
+    flags_of(flags).is_err()
+}
+
+/// Whether spans of this kind may not be empty.
+pub fn is_point_mark(kind: Kind) -> bool
+    ensures { result ≡ is_point_mark kind }
+{
+    matches!(kind, Kind::PointMark)
+}
