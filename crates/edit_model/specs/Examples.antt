@@ -1,10 +1,11 @@
 -- Worked examples of reading and printing.
-use Rattle.std.specs.Prelude.{◌≡◌, ◌∷◌, [], pos, negsuc, codes, Some, None}
+use Rattle.std.specs.Prelude.{◌≡◌, ◌∷◌, [], pos, negsuc, codes, Ok, Err}
 use Rattle.edit_base.specs.declared.kinds.What.TheVariants.{Tag}
 use Rattle.edit_base.specs.declared.verdicts.Verdict.TheVariants.{Refused}
 use Rattle.edit_base.specs.declared.verdicts.Refusal.TheVariants.{Below}
 use Rattle.edit_model.specs.declared.commands.Command.TheVariants as command
 use Rattle.edit_model.specs.declared.entries.LogEntry.TheVariants as entry
+use Rattle.edit_model.specs.declared.faults.TraceFault.TheVariants as fault
 use Rattle.edit_model.specs.Printed.{entry_line, text_line}
 use Rattle.edit_model.specs.Reading.{plain_incoming, read_command}
 
@@ -13,13 +14,13 @@ use Rattle.edit_model.specs.Reading.{plain_incoming, read_command}
 abbrev pub ReadsLines : Type 0
 ReadsLines =
     (read_command (codes "{ \"text\": \"\\u0068i\", \"end\": 5, \"start\": -2, \"op\": \"replace\" }")
-    ≡ Some (command.Replace (negsuc 1) (pos 5) (plain_incoming (codes "hi"))))
-    × (read_command (codes "{\"op\":\"replace\",\"start\":-0,\"end\":5,\"text\":\"hi\"}") ≡ None)
-    × (read_command (codes "{\"op\":\"replace\",\"start\":0,\"end\":5,\"text\":\"\\ud83d\"}") ≡ None)
+    ≡ Ok (command.Replace (negsuc 1) (pos 5) (plain_incoming (codes "hi"))))
+    × (read_command (codes "{\"op\":\"replace\",\"start\":-0,\"end\":5,\"text\":\"hi\"}") ≡ Err fault.Number)
+    × (read_command (codes "{\"op\":\"replace\",\"start\":0,\"end\":5,\"text\":\"\\ud83d\"}") ≡ Err fault.Json)
     × (read_command (codes "{\"op\":\"set_span\",\"id\":5,\"start\":0,\"end\":2,\"flags\":33,\"what\":\"tag 7\"}")
-    ≡ Some (command.SetSpan 5 (pos 0) (pos 2) 33 (Tag 7)))
-    × (read_command (codes "{\"op\":\"set_span\",\"id\":5,\"start\":0,\"end\":2,\"flags\":33,\"what\":\"tag 07\"}") ≡ None)
-    × (read_command (codes "{\"op\":\"set_span\",\"id\":5,\"start\":0,\"end\":2,\"flags\":33,\"what\":\"tag\"}") ≡ None)
+    ≡ Ok (command.SetSpan 5 (pos 0) (pos 2) 33 (Tag 7)))
+    × (read_command (codes "{\"op\":\"set_span\",\"id\":5,\"start\":0,\"end\":2,\"flags\":33,\"what\":\"tag 07\"}") ≡ Err fault.Text)
+    × (read_command (codes "{\"op\":\"set_span\",\"id\":5,\"start\":0,\"end\":2,\"flags\":33,\"what\":\"tag\"}") ≡ Err fault.Text)
 
 -- a refused edit; then a letter, the quote, the backslash, a line's end, half of a surrogate pair, the last plain unit
 -- and the one behind it

@@ -1,5 +1,5 @@
 -- What the definitions mean, as laws.
-use Rattle.std.specs.Prelude.{ℕ, ◌≡◌, ◌≢◌, ◌<◌, ◌≤◌, ◌⊎◌, ◌++◌, true, List, [], ◌∷◌, length, IfSome}
+use Rattle.std.specs.Prelude.{ℕ, ◌≡◌, ◌≢◌, ◌<◌, ◌≤◌, ◌⊎◌, ◌++◌, true, List, [], ◌∷◌, length, IfOk}
 use Rattle.std.specs.List.{flat_map, AllByRecursion}
 use Rattle.edit_base.specs.declared.verdicts.Verdict.TheVariants.{Done}
 use Rattle.edit_model.specs.declared.kinds.Kind.{Kind}
@@ -73,4 +73,4 @@ CutsAtNewlines = (trace : List ℕ) → AllByRecursion IsOneLine (trace_lines tr
 
 -- a command that was read brings no more than a replacement may
 abbrev pub ReadsFittingCommands : Type 0
-ReadsFittingCommands = (line : List ℕ) → IfSome (read_command line) IsFitting
+ReadsFittingCommands = (line : List ℕ) → IfOk (read_command line) IsFitting

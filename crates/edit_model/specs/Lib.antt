@@ -12,8 +12,11 @@ pub mod Leads
 pub mod Faces
 pub mod Log
 pub mod Printed
+pub mod Words
+pub mod Operations
 pub mod Reading
 pub mod Lines
+pub mod Settings
 pub mod Output
 pub mod Laws
 pub mod Examples

@@ -1,6 +1,6 @@
 -- The lines of a trace.
-use Rattle.std.specs.Prelude.{ℕ, ◌&&◌, ◌||◌, ◌==◌, Bool, List, [], ◌∷◌, length, nat_le, if◌then◌else◌}
-use Rattle.std.specs.List.{list_all}
+use Rattle.std.specs.Prelude.{ℕ, ◌&&◌, ◌||◌, ◌==◌, Bool, List, [], ◌∷◌, ◌++◌, length, drop, nat_le, if◌then◌else◌}
+use Rattle.std.specs.List.{list_all, flat_map}
 use Rattle.edit_base.specs.declared.bounds.TheConstants.Limits.{LINE_BYTES}
 
 -- a byte in front of the first line
@@ -12,6 +12,20 @@ onto_first byte (line ∷ lines) = (byte ∷ line) ∷ lines
 unfoldable pub trace_lines : List ℕ → List (List ℕ)
 trace_lines [] = []
 trace_lines (byte ∷ bytes) = if byte == 10 then [] ∷ trace_lines bytes else onto_first byte (trace_lines bytes)
+
+-- a byte in front of the first line, where there is one
+abbrev pub onto_ended : ℕ → List (List ℕ) → List (List ℕ)
+onto_ended byte [] = []
+onto_ended byte (line ∷ lines) = (byte ∷ line) ∷ lines
+
+-- the lines whose `\n` stands in these bytes
+unfoldable pub ended_lines : List ℕ → List (List ℕ)
+ended_lines [] = []
+ended_lines (byte ∷ bytes) = if byte == 10 then [] ∷ ended_lines bytes else onto_ended byte (ended_lines bytes)
+
+-- the bytes behind the last `\n`, or all where there is none
+unfoldable pub open_line : List ℕ → List ℕ
+open_line bytes = drop (length (flat_map (λ line. line ++ 10 ∷ []) (ended_lines bytes))) bytes
 
 -- a space, a tab or `\r`
 abbrev pub is_blank_byte : ℕ → Bool

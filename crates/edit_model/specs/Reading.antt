@@ -1,37 +1,33 @@
--- What a line of a trace asks for, by the value that `serde_json` promises for its bytes.
-use Rattle.std.specs.Prelude.{ℕ, ◌≡◌, ◌≤◌, ◌+◌, ◌-◌, ◌*◌, ◌&&◌, ◌==◌, ℤ, pos, negsuc, List, [], length, take, drop, decimal, Bool, false, nat_lt, nat_le, int_le, codes, if◌then◌else◌, Option, Some, None}
-use Rattle.std.specs.Option.{option_map, option_and_then, option_map_or}
-use Rattle.std.specs.List.{flat_map, fold}
+-- What a line of a trace asks for, or its first fault, by the value that `serde_json` promises for its bytes.
+use Rattle.std.specs.Prelude.{ℕ, ◌≡◌, ◌≤◌, ◌&&◌, ◌||◌, ℤ, pos, negsuc, List, [], ◌∷◌, map, length, Bool, true, false, not, nat_lt, nat_le, int_le, codes, if◌then◌else◌, Option, Some, None, is_some, is_none, unwrap_or, Result, Ok, Err}
+use Rattle.std.specs.Option.{option_map, option_and_then}
+use Rattle.std.specs.List.{flat_map, list_any, find}
 use Rattle.std.specs.Str.{is_utf8, chars, bytes_eq}
 use Rattle.std.specs.Char.Escape.{encode_utf16}
-use Rattle.serde_json.specs.Data.{Data, null, boolean, number, string, array, object, Members, no_members, member}
+use Rattle.serde_json.specs.Data.{Data, Members, no_members, member}
 use Rattle.serde_json.specs.Read.{read}
-use Rattle.serde_json.specs.Find.{get, as_number, as_i64, as_u64, as_str}
+use Rattle.serde_json.specs.Find.{get_member, as_object, as_number, as_i64, as_u64, as_str}
 use Rattle.edit_base.specs.declared.bounds.TheConstants.Limits.{LINE_BYTES}
 use Rattle.edit_base.specs.declared.kinds.What.{What}
 use Rattle.edit_base.specs.declared.kinds.What.TheVariants.{Tag}
 use Rattle.edit_base.specs.declared.rows.Incoming.{Incoming}
 use Rattle.edit_model.specs.declared.commands.Command.{Command}
 use Rattle.edit_model.specs.declared.commands.Command.TheVariants as command
+use Rattle.edit_model.specs.declared.faults.TraceFault.{TraceFault}
+use Rattle.edit_model.specs.declared.faults.TraceFault.TheVariants as fault
+use Rattle.edit_model.specs.Operations.{Form, place, id, text, what, is_number, Field, Kind, replace, set_span, remove_span, spans_over, next_edge, Operation, operations}
+use Rattle.edit_model.specs.Words.{greatest_id, as_what}
 
 -- the value of a line's bytes, where `serde_json` reads one
 abbrev pub json_of : List ℕ → Option Data
 json_of bytes = if is_utf8 bytes then read bytes else None
 
-abbrev pub members_len : Members → ℕ
-members_len no_members = 0
-members_len (member key value members) = members_len members + 1
+-- the names of an object's members
+abbrev pub keys_of : Members → List (List ℕ)
+keys_of no_members = []
+keys_of (member key value members) = key ∷ keys_of members
 
--- how many members an object has; any other value has none
-abbrev pub member_count : Data → ℕ
-member_count null = 0
-member_count (boolean b) = 0
-member_count (number n) = 0
-member_count (string s) = 0
-member_count (array items) = 0
-member_count (object members) = members_len members
-
--- ---- fields
+-- ---- forms
 
 -- the least and the greatest place
 abbrev pub least_place : ℤ
@@ -44,12 +40,19 @@ abbrev pub as_place : ℤ → Option ℤ
 as_place z = if int_le least_place z && int_le z greatest_place then Some z else None
 
 -- a place: a whole number of 32 bits with sign
-abbrev pub place_in : List ℕ → Data → Option ℤ
-place_in field value = option_and_then as_place (option_and_then as_i64 (option_and_then as_number (get field value)))
+abbrev pub place_of : Data → Option ℤ
+place_of value = option_and_then as_place (option_and_then as_i64 (as_number value))
+
+abbrev pub as_id : ℕ → Option ℕ
+as_id n = if nat_le n greatest_id then Some n else None
+
+-- an id or a flags word: a whole number of 32 bits without sign
+abbrev pub id_of : Data → Option ℕ
+id_of value = option_and_then as_id (option_and_then as_u64 (as_number value))
 
 -- the UTF-16 units of a text
 abbrev pub utf16 : List ℕ → List ℕ
-utf16 text = flat_map encode_utf16 (chars text)
+utf16 string = flat_map encode_utf16 (chars string)
 
 -- as many units as a replacement may bring; a line has far fewer
 abbrev pub most_incoming : ℕ
@@ -59,93 +62,114 @@ abbrev pub as_incoming : List ℕ → Option (List ℕ)
 as_incoming units = if nat_le (length units) most_incoming then Some units else None
 
 -- a text: the UTF-16 units of a string
-abbrev pub text_in : List ℕ → Data → Option (List ℕ)
-text_in field value = option_and_then as_incoming (option_map utf16 (option_and_then as_str (get field value)))
-
-abbrev pub greatest_id : ℕ
-greatest_id = 4294967295
-
-abbrev pub as_id : ℕ → Option ℕ
-as_id n = if nat_le n greatest_id then Some n else None
-
--- an id or a flags word: a whole number of 32 bits without sign
-abbrev pub id_in : List ℕ → Data → Option ℕ
-id_in field value = option_and_then as_id (option_and_then as_u64 (option_and_then as_number (get field value)))
-
--- the number whose decimal digits these are: no sign, and no zero in front of another digit
-abbrev pub digits_value : List ℕ → ℕ
-digits_value text = fold (λ n digit. n * 10 + (digit - 48)) 0 text
-
-abbrev pub whole_number : ℕ → List ℕ → Option ℕ
-whole_number greatest text =
-    if bytes_eq (decimal (digits_value text)) text && nat_le (digits_value text) greatest then Some (digits_value text) else None
-
--- `tag` and a number, with one space between
-abbrev pub as_what : List ℕ → Option What
-as_what text = if bytes_eq (take 4 text) (codes "tag ") then option_map Tag (whole_number greatest_id (drop 4 text)) else None
+abbrev pub text_of : Data → Option (List ℕ)
+text_of value = option_and_then as_incoming (option_map utf16 (as_str value))
 
 -- what a span carries, in words
-abbrev pub what_in : List ℕ → Data → Option What
-what_in field value = option_and_then as_what (option_and_then as_str (get field value))
+abbrev pub what_of : Data → Option What
+what_of value = option_and_then as_what (as_str value)
 
--- the member `op` is this name
-abbrev pub has_op : List ℕ → Data → Bool
-has_op name value = option_map_or (λ op. bytes_eq op name) (option_and_then as_str (get (codes "op") value)) false
+-- a value has this form
+abbrev pub has_form : Form → Data → Bool
+has_form place value = is_some (place_of value)
+has_form id value = is_some (id_of value)
+has_form text value = is_some (text_of value)
+has_form what value = is_some (what_of value)
 
--- the value has `op`, which is this name, and so many members in all
-abbrev pub is_operation : List ℕ → ℕ → Data → Bool
-is_operation name count value = has_op name value && member_count value == count
+-- ---- the first fault
 
--- ---- operations: each has exactly `op` and these fields
+-- the value of a field
+abbrev pub value_in : List ℕ → Members → Option Data
+value_in name members = get_member name members
+
+-- the operation that `op` names
+abbrev pub operation_of : Members → Option Operation
+operation_of members = option_and_then (λ name. find (λ it. bytes_eq it.name name) operations) (option_and_then as_str (value_in (codes "op") members))
+
+-- `op`, or a field of the operation
+abbrev pub is_known : Operation → List ℕ → Bool
+is_known it key = bytes_eq (codes "op") key || list_any (λ field. bytes_eq field.name key) it.fields
+
+abbrev pub is_absent : Members → Field → Bool
+is_absent members field = is_none (value_in field.name members)
+
+abbrev pub fits : Form → Option Data → Bool
+fits form None = false
+fits form (Some value) = has_form form value
+
+-- a number field without a number of its form, and another field without a value of its form
+abbrev pub lacks_number : Members → Field → Bool
+lacks_number members field = is_number field.form && not (fits field.form (value_in field.name members))
+
+abbrev pub lacks_text : Members → Field → Bool
+lacks_text members field = not (is_number field.form) && not (fits field.form (value_in field.name members))
+
+abbrev pub first_fault : List (Bool × TraceFault) → Option TraceFault
+first_fault [] = None
+first_fault (line ∷ lines) = if line.0 then Some line.1 else first_fault lines
+
+abbrev pub fault_lines : Operation → Members → List (Bool × TraceFault)
+fault_lines it members =
+    (list_any (λ key. not (is_known it key)) (keys_of members), fault.Field)
+    ∷ (list_any (is_absent members) it.fields, fault.Missing)
+    ∷ (list_any (lacks_number members) it.fields, fault.Number)
+    ∷ (list_any (lacks_text members) it.fields, fault.Text)
+    ∷ []
+
+-- ---- the command of an object without a fault
+
+abbrev pub place_in : List ℕ → Members → ℤ
+place_in name members = unwrap_or (option_and_then place_of (value_in name members)) (pos 0)
+
+abbrev pub id_in : List ℕ → Members → ℕ
+id_in name members = unwrap_or (option_and_then id_of (value_in name members)) 0
+
+abbrev pub text_in : List ℕ → Members → List ℕ
+text_in name members = unwrap_or (option_and_then text_of (value_in name members)) []
+
+abbrev pub what_in : List ℕ → Members → What
+what_in name members = unwrap_or (option_and_then what_of (value_in name members)) (Tag 0)
 
 -- units alone
 abbrev pub plain_incoming : List ℕ → Incoming
 plain_incoming units = record { units = units; spans = []; composing = false }
 
--- `start`, `end` and `text`
-abbrev pub replace_in : Data → Option Command
-replace_in value =
-    option_and_then (λ start. option_and_then (λ end. option_map (λ units.
-    command.Replace start end (plain_incoming units)) (text_in (codes "text") value)) (place_in (codes "end") value)) (place_in (codes "start") value)
+abbrev pub command_in : Kind → Members → Command
+command_in replace members =
+    command.Replace (place_in (codes "start") members) (place_in (codes "end") members) (plain_incoming (text_in (codes "text") members))
+command_in set_span members =
+    command.SetSpan (id_in (codes "id") members) (place_in (codes "start") members) (place_in (codes "end") members) (id_in (codes "flags") members) (what_in (codes "what") members)
+command_in remove_span members = command.RemoveSpan (id_in (codes "id") members)
+command_in spans_over members = command.SpansOver (place_in (codes "start") members) (place_in (codes "end") members)
+command_in next_edge members = command.NextEdge (place_in (codes "start") members) (place_in (codes "limit") members)
 
--- `id`, `start`, `end`, `flags` and `what`
-abbrev pub set_span_in : Data → Option Command
-set_span_in value =
-    option_and_then (λ id. option_and_then (λ start. option_and_then (λ end. option_and_then (λ flags. option_map (λ what.
-    command.SetSpan id start end flags what) (what_in (codes "what") value)) (id_in (codes "flags") value)) (place_in (codes "end") value))
-    (place_in (codes "start") value)) (id_in (codes "id") value)
+-- ---- lines
 
--- `id`
-abbrev pub remove_span_in : Data → Option Command
-remove_span_in value = option_map (λ id. command.RemoveSpan id) (id_in (codes "id") value)
+abbrev pub unless_fault : Option TraceFault → Command → Result Command TraceFault
+unless_fault None asked = Ok asked
+unless_fault (Some it) asked = Err it
 
--- `start` and `end`
-abbrev pub spans_over_in : Data → Option Command
-spans_over_in value =
-    option_and_then (λ start. option_map (λ end. command.SpansOver start end) (place_in (codes "end") value)) (place_in (codes "start") value)
+abbrev pub read_operation : Members → Option Operation → Result Command TraceFault
+read_operation object None = Err fault.Op
+read_operation object (Some it) = unless_fault (first_fault (fault_lines it object)) (command_in it.kind object)
 
--- `start` and `limit`
-abbrev pub next_edge_in : Data → Option Command
-next_edge_in value =
-    option_and_then (λ start. option_map (λ limit. command.NextEdge start limit) (place_in (codes "limit") value)) (place_in (codes "start") value)
+abbrev pub read_object : Option Members → Result Command TraceFault
+read_object None = Err fault.NotObject
+read_object (Some object) = read_operation object (operation_of object)
 
-abbrev pub command_in : Data → Option Command
-command_in value =
-    if is_operation (codes "replace") 4 value then replace_in value
-    else (if is_operation (codes "set_span") 6 value then set_span_in value
-    else (if is_operation (codes "remove_span") 2 value then remove_span_in value
-    else (if is_operation (codes "spans_over") 3 value then spans_over_in value
-    else (if is_operation (codes "next_edge") 3 value then next_edge_in value else None))))
+abbrev pub read_value : Option Data → Result Command TraceFault
+read_value None = Err fault.Json
+read_value (Some value) = read_object (as_object value)
 
--- what a line asks for, if it is a command
-unfoldable pub read_command : List ℕ → Option Command
-read_command bytes = if nat_lt LINE_BYTES (length bytes) then None else option_and_then command_in (json_of bytes)
+-- the command of a line, or the first fault that applies
+unfoldable pub read_command : List ℕ → Result Command TraceFault
+read_command bytes = if nat_lt LINE_BYTES (length bytes) then Err fault.LineTooLong else read_value (json_of bytes)
 
 -- a command brings at most so many units, and as yet neither spans nor the composing region
 abbrev pub IsFitting : Command → Type 0
 IsFitting (command.Replace start end incoming) =
     (length incoming.units ≤ most_incoming) × (incoming.spans ≡ []) × (incoming.composing ≡ false)
-IsFitting (command.SetSpan id start end flags what) = Unit {0}
-IsFitting (command.RemoveSpan id) = Unit {0}
+IsFitting (command.SetSpan span start end flags it) = Unit {0}
+IsFitting (command.RemoveSpan span) = Unit {0}
 IsFitting (command.SpansOver start end) = Unit {0}
 IsFitting (command.NextEdge start limit) = Unit {0}

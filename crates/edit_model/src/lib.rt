@@ -5,19 +5,23 @@ mod changes;
 mod commands;
 mod entries;
 mod examples;
+mod faults;
 mod kinds;
 mod laws;
 mod replies;
+mod settings;
 mod steps;
 
 pub use changes::{Change, MovedRow};
 pub use commands::Command;
 pub use entries::{LogEntry, Logged};
 pub use examples::{prints_lines, reads_lines};
+pub use faults::{SettingsFault, TraceFault};
 pub use kinds::{EndKind, Kind};
 pub use laws::{
     commands_bring_what_fits, edits_keep_states_well_formed,
     edits_that_are_not_done_change_nothing, ends_stay_where_they_may, lines_are_cut_at_newlines,
 };
 pub use replies::Reply;
+pub use settings::Settings;
 pub use steps::Step;

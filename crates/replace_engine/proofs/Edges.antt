@@ -1,6 +1,6 @@
 -- The least edge of some spans.
-use Rattle.std.proofs.Common.{◌≡◌, ℕ, ◌+◌, ◌<◌, ◌≤◌, ◌&&◌, Bool, true, false, cond, ltb, List, [], ◌∷◌, ◌++◌, map, take, length, get_or, min, refl, sym, ap, ◌∙◌, arith}
-use Rattle.std.specs.List.{filter, flat_map}
+use Rattle.std.proofs.Common.{◌≡◌, ℕ, ◌+◌, ◌<◌, ◌≤◌, ◌&&◌, Bool, true, false, cond, ltb, List, [], ◌∷◌, ◌++◌, take, length, get_or, min, refl, ap, ◌∙◌, arith}
+use Rattle.std.specs.List.{filter}
 use Rattle.std.proofs.lemmas.Bool.Decides.{nat_tests}
 use Rattle.std.proofs.lemmas.List.{map_more, append-nil}
 use Rattle.std.proofs.lemmas.List.Elements.{filter-append}

@@ -1,5 +1,5 @@
 -- The change of an edit that is done leads from the state before to the state after.
-use Rattle.std.proofs.Common.{◌≡◌, ℕ, sym, ◌∙◌, inl}
+use Rattle.std.proofs.Common.{◌≡◌, ℕ, ◌∙◌, inl}
 use Rattle.edit_base.specs.declared.verdicts.Verdict.TheVariants.{Done}
 use Rattle.edit_model.specs.declared.steps.Step.{Step}
 use Rattle.edit_model.specs.State.{State}

@@ -1,6 +1,6 @@
 //! Followers of a text: they are told of each change.
 
-ghost use Rattle.std.specs.Prelude.{◌≡◌, OnOk};
+ghost use Rattle.std.specs.Prelude.{◌≡◌, IsOk, OnOk};
 ghost use Rattle.edit_model.specs.State.{State};
 ghost use Rattle.edit_model.specs.Changed.{effect_of};
 ghost use Rattle.edit_model.specs.Faces.{Metrics, no_metrics};
@@ -32,7 +32,7 @@ pub trait Follower {
         ensures metrics { metrics self.new ≡ metrics self.old };
 }
 
-/// A follower that is told and keeps nothing.
+/// A follower that is told and keeps nothing, and so follows every state.
 #[derive(Clone, Copy, Debug, PartialEq, Eq)]
 pub struct Unfollowed;
 
@@ -46,7 +46,9 @@ impl Follower for Unfollowed {
         _text: &SpannedText,
         _change: &Change,
         _steps: &mut Steps<L>,
-    ) -> Result<(), NoMemory> {
+    ) -> Result<(), NoMemory>
+        ensures { IsOk result }
+    {
         Ok(())
     }
 }

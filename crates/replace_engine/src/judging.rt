@@ -20,7 +20,7 @@ use edit_base::{Incoming, Limits, Refusal, SpanRow, Verdict, What};
 use span_flags::{Kind, flags_of, kind_of_word};
 
 /// A span as it is asked for, its places not looked at yet.
-#[derive(Clone, Copy, Debug)]
+#[derive(Clone, Copy)]
 pub struct AskedSpan {
     pub id: u32,
     pub start: i32,
@@ -93,14 +93,13 @@ fn judge_places(units: &[u16], rows: &[SpanRow], asked: &AskedSpan) -> Verdict
     ensures ends { result ≡ Done → pos 0 ≤ℤ asked.now.end }
 {
     let len = units.len() as i64;
-    let (start, end) = (i64::from(asked.start), i64::from(asked.end));
-    if end < start {
+    if asked.end < asked.start {
         return Verdict::Refused(Refusal::Order);
     }
-    if start > len || end > len {
+    if i64::from(asked.start) > len || i64::from(asked.end) > len {
         return Verdict::Refused(Refusal::Beyond);
     }
-    if start < 0 || end < 0 {
+    if asked.start < 0 || asked.end < 0 {
         return Verdict::Refused(Refusal::Below);
     }
     judge_kind(units, rows, asked)

@@ -137,8 +137,8 @@ fn is_layout(what: What) -> bool
     )
 }
 
-#[tactic(auto, unfolding(edit_model::specs::Over::next_edge))]
 /// The least place behind `after` and below `limit` where a span starts or ends, else `limit`.
+#[tactic(auto, unfolding(edit_model::specs::Over::next_edge))]
 pub fn next_edge(rows: &[SpanRow], after: u32, limit: u32) -> u32
     ensures { result ≡ next_edge after limit (spans_in rows.now) }
 {

@@ -25,8 +25,7 @@ pub fn set_row(rows: &mut Vec<SpanRow>, row: &SpanRow, change: &mut Change) -> R
     ensures lists { KeepsRoom change.old change.new }
 {
     if is_attached(rows, row.id) {
-        start_change(change, 0, 0, 0);
-        set_in_place(rows, row, &mut change.moved);
+        replace_row(rows, row, change);
         return Ok(());
     }
     reserve_row(rows, change)?;
@@ -34,6 +33,20 @@ pub fn set_row(rows: &mut Vec<SpanRow>, row: &SpanRow, change: &mut Change) -> R
     push_within(&mut change.added, *row);
     push_within(rows, *row);
     Ok(())
+}
+
+/// The row comes to the place of the one with its id, and the change says so.
+fn replace_row(rows: &mut Vec<SpanRow>, row: &SpanRow, change: &mut Change)
+    requires told { HasRoom (length rows.old.items) change.old }
+    requires attached { is_attached row.now.id (spans_in rows.old.items) ≡ true }
+    ensures rows { spans_in rows.new.items ≡ with_span (span_of row.now) (spans_in rows.old.items) }
+    ensures effect { effect_of change.new ≡ set_effect (state_of [] rows.old.items) (span_of row.now) }
+    ensures count { length rows.new.items ≡ length rows.old.items }
+    ensures capacity { vec_capacity rows.old ≤ vec_capacity rows.new }
+    ensures lists { KeepsRoom change.old change.new }
+{
+    start_change(change, 0, 0, 0);
+    set_in_place(rows, row, &mut change.moved);
 }
 
 /// The row comes to the place of each with its id, and each that goes for it is told of.

@@ -62,6 +62,7 @@ impl SpannedText {
         ensures state { IfOk result (λ text. text.state ≡ empty_state) }
         ensures gap { IfOk result (λ text. text.gap ≡ 0) }
         ensures effect { IfOk result (λ text. text.effect ≡ no_effect) }
+        ensures well_formed { IfOk result (λ text. IsWellFormed text.state) }
     {
         Ok(SpannedText {
             units: Vec::new(alloc),

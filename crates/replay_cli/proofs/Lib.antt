@@ -1,8 +1,8 @@
 pub mod Appending
+pub mod CheckRuns
 pub mod Cutting
-pub mod Json
-pub mod Numbers
 pub mod Entries
 pub mod Known
 pub mod LineRuns
+pub mod SettingUp
 pub mod Traces

@@ -1,36 +1,36 @@
 -- How the runs of lines join.
-use Rattle.std.proofs.Common.{◌≡◌, ℕ, ◌+◌, List, [], ◌∷◌, ◌++◌, length, take, Option, Some, None, IfSome, Bool, true, false, cond, refl, sym, ap, ◌∙◌, append_assoc, arith, ◌==◌}
-use Rattle.std.proofs.lemmas.Bool.Decides.{nat_tests}
+use Rattle.std.proofs.Common.{◌≡◌, ℕ, ◌+◌, List, [], ◌∷◌, ◌++◌, length, take, Option, Some, None, Result, Ok, Err, IfOk, Bool, true, false, cond, refl, sym, ap, ◌∙◌, append_assoc}
 use Rattle.std.specs.List.{concat}
 use Rattle.std.proofs.lemmas.List.{append-nil}
 use Rattle.std.proofs.Math.Seq.{take-append-add}
 use Rattle.edit_model.specs.State.{State}
 use Rattle.edit_model.specs.declared.commands.Command.{Command}
 use Rattle.edit_model.specs.Printed.{end_block}
-use Rattle.edit_model.specs.Lines.{trace_lines, is_blank}
+use Rattle.edit_model.specs.Lines.{is_blank, open_line}
 use Rattle.edit_model.specs.Reading.{read_command, IsFitting}
-use Rattle.edit_model.specs.Output.{Line, blank, command, faulty, as_line, line_of, line_run, run_lines, Played, Ending, finished, faulty_line, behind, bytes_of, command_bytes, state_behind}
+use Rattle.edit_model.specs.declared.faults.TraceFault.{TraceFault}
+use Rattle.edit_model.specs.Output.{Line, blank, command, faulty, as_line, line_of, line_run, run_lines, Played, Ending, finished, faulty_line, too_long, stopped, ended, cut_off, behind, bytes_of, command_bytes, state_behind}
 use Rattle.edit_model.proofs.Readings.{fits-read_command}
 use Rattle.replay_io.specs.Outside.{with_more}
 use Rattle.replay_cli.specs.declared.player.LineEnd.{LineEnd}
 use Rattle.replay_cli.specs.declared.player.LineEnd.TheVariants.{Next, Stop}
 use Rattle.replay_cli.specs.declared.status.Status.{Status}
 use Rattle.replay_cli.specs.declared.status.Status.TheVariants as status
-use Rattle.replay_cli.specs.declared.status.TraceFault.TheVariants as fault
 use Rattle.replay_cli.specs.Runs.{Writes}
-use Rattle.replay_cli.specs.Steps.{behind_all, Reached, LineGives, CommandGives}
+use Rattle.replay_cli.specs.Lines.{lines_in}
+use Rattle.replay_cli.specs.Steps.{close_of, behind_all, Reached, LineGives, CommandGives}
 use Rattle.replay_cli.proofs.Known.{with_more-none, with_more-twice, concat-append, take-before}
 
 -- ---- one line
 
-pub run-line : (number : ℕ) (state : State) (line : List ℕ) (lines : List (List ℕ)) (it : Line) → it ≡ line_of line
-    → run_lines number state (line ∷ lines) ≡ line_run number state it (λ next. run_lines (number + 1) next lines)
+pub run-line : (close : ℕ → State → Played) (number : ℕ) (state : State) (line : List ℕ) (lines : List (List ℕ)) (it : Line) → it ≡ line_of line
+    → run_lines close number state (line ∷ lines) ≡ line_run number state it (λ next. run_lines close (number + 1) next lines)
 unfolding run_lines
-run-line number state line lines it is = ap (λ l. line_run number state l (λ next. run_lines (number + 1) next lines)) (sym is)
+run-line close number state line lines it is = ap (λ l. line_run number state l (λ next. run_lines close (number + 1) next lines)) (sym is)
 
-pub run-nothing : (number : ℕ) (state : State) → run_lines number state [] ≡ record { commands = []; last = end_block state; ending = finished }
+pub run-nothing : (close : ℕ → State → Played) (number : ℕ) (state : State) → run_lines close number state [] ≡ close number state
 unfolding run_lines
-run-nothing number state = refl
+run-nothing close number state = refl
 
 -- nothing was written yet
 pub reached-itself : (whole left : Played) (known : Option (List ℕ)) → whole ≡ left → Reached whole left known known
@@ -38,11 +38,11 @@ reached-itself whole left known is = record { pieces = []; is = is; written = wi
 
 -- ---- a command that was read
 
-fitting : (asked : Command) (found : Option Command) → IfSome found IsFitting → command asked ≡ as_line found → IsFitting asked
-fitting asked None fits is = absurd (cc)
-fitting asked (Some other) fits is = let e : asked ≡ other = cc in rw e fits
+fitting : (asked : Command) (found : Result Command TraceFault) → IfOk found IsFitting → command asked ≡ as_line found → IsFitting asked
+fitting asked (Err it) fits is = absurd (cc)
+fitting asked (Ok other) fits is = let e : asked ≡ other = cc in rw e fits
 
-fitting_unless_blank : (asked : Command) (test : Bool) (found : Option Command) → IfSome found IsFitting → command asked ≡ cond test blank (as_line found) → IsFitting asked
+fitting_unless_blank : (asked : Command) (test : Bool) (found : Result Command TraceFault) → IfOk found IsFitting → command asked ≡ cond test blank (as_line found) → IsFitting asked
 fitting_unless_blank asked true found fits is = absurd (cc)
 fitting_unless_blank asked false found fits is = fitting asked found fits is
 
@@ -95,11 +95,13 @@ writes_behind whole left status.Done old now new reached writes =
     (same_ending whole left old now finished reached writes.0, all_written whole left old now new reached writes.1)
 writes_behind whole left status.Usage old now new reached writes = writes
 writes_behind whole left (status.TraceFault line kind) old now new reached writes =
-    (writes.0, same_ending whole left old now (faulty_line line) reached writes.1, all_written whole left old now new reached writes.2)
+    (same_ending whole left old now (faulty_line line kind) reached writes.0, all_written whole left old now new reached writes.1)
+writes_behind whole left (status.SettingsFault kind) old now new reached writes = writes
 writes_behind whole left status.ReadFault old now new reached writes = writes
 writes_behind whole left status.WriteFault old now new reached writes = some_written whole left old now new writes.0 reached writes.1
 writes_behind whole left status.NoMemory old now new reached writes = some_commands whole left old now new writes.0 reached writes.1
-writes_behind whole left status.TraceTooLong old now new reached writes = writes
+writes_behind whole left status.TraceTooLong old now new reached writes =
+    (same_ending whole left old now too_long reached writes.0, all_written whole left old now new reached writes.1)
 
 -- the runs join
 pub reached-twice : (whole left last : Played) (old now new : Option (List ℕ)) → Reached whole left old now → Reached left last now new → Reached whole last old new
@@ -118,62 +120,77 @@ reached-twice whole left last old now new first second = record {
 -- the run behind a command
 pub command-goes : (number : ℕ) (state : State) (line : List ℕ) (asked : Command) (after : State) (end : LineEnd) (old new : Option (List ℕ)) → command asked ≡ line_of line
     → CommandGives (command_bytes number state asked) (state_behind state asked) after end old new → LineGives number state line after end old new
-command-goes number state line asked after Next old new is gives = λ lines. record {
+command-goes number state line asked after Next old new is gives = λ close lines. record {
   pieces = command_bytes number state asked ∷ [];
-  is = run-line number state line lines (command asked) is
-      ∙ ap (λ next. behind (command_bytes number state asked) (run_lines (number + 1) next lines)) (sym gives.0);
+  is = run-line close number state line lines (command asked) is
+      ∙ ap (λ next. behind (command_bytes number state asked) (run_lines close (number + 1) next lines)) (sym gives.0);
   written = gives.1 ∙ ap (with_more old) (sym (append-nil (command_bytes number state asked)));
 }
 command-goes number state line asked after (Stop status.Done) old new is gives = absurd gives
 command-goes number state line asked after (Stop status.Usage) old new is gives = absurd gives
 command-goes number state line asked after (Stop (status.TraceFault at kind)) old new is gives = absurd gives
+command-goes number state line asked after (Stop (status.SettingsFault kind)) old new is gives = absurd gives
 command-goes number state line asked after (Stop status.ReadFault) old new is gives = absurd gives
-command-goes number state line asked after (Stop status.WriteFault) old new is gives = λ lines.
+command-goes number state line asked after (Stop status.WriteFault) old new is gives = λ close lines.
     let bytes = command_bytes number state asked in
-    let rest = run_lines (number + 1) (state_behind state asked) lines in
+    let rest = run_lines close (number + 1) (state_behind state asked) lines in
     let t = take-before bytes (concat rest.commands ++ rest.last) gives.0 in
-    (t.0, gives.1 ∙ ap (with_more old) (t.1 ∙ ap (take t.0) (sym (append_assoc bytes (concat rest.commands) rest.last) ∙ ap bytes_of (sym (run-line number state line lines (command asked) is)))))
-command-goes number state line asked after (Stop status.NoMemory) old new is gives = λ lines. (0, gives ∙ with_more-none old)
+    (t.0, gives.1 ∙ ap (with_more old) (t.1 ∙ ap (take t.0) (sym (append_assoc bytes (concat rest.commands) rest.last) ∙ ap bytes_of (sym (run-line close number state line lines (command asked) is)))))
+command-goes number state line asked after (Stop status.NoMemory) old new is gives = λ close lines. (0, gives ∙ with_more-none old)
 command-goes number state line asked after (Stop status.TraceTooLong) old new is gives = absurd gives
 
--- ---- the end block
+-- ---- behind the lines
 
-pub end-written : (number : ℕ) (state : State) (old new : Option (List ℕ)) (bytes : List ℕ) → bytes ≡ end_block state → new ≡ with_more old bytes
-    → Writes (run_lines number state []) status.Done old new
-unfolding run_lines
+pub end-written : (number : ℕ) (state : State) (old new : Option (List ℕ)) (bytes : List ℕ) → bytes ≡ end_block state → new ≡ with_more old bytes → Writes (ended number state) status.Done old new
 end-written number state old new bytes is written = (refl, written ∙ ap (with_more old) is)
 
 pub end-partly : (number : ℕ) (state : State) (old new : Option (List ℕ)) (bytes : List ℕ) (count : ℕ) → bytes ≡ end_block state → new ≡ with_more old (take count bytes)
-    → Writes (run_lines number state []) status.WriteFault old new
-unfolding run_lines
+    → Writes (ended number state) status.WriteFault old new
 end-partly number state old new bytes count is written = (count, written ∙ ap (λ b. with_more old (take count b)) is)
 
-pub nothing-written : (whole : Played) (old new : Option (List ℕ)) → new ≡ old → Writes whole status.NoMemory old new
-nothing-written whole old new same = (0, same ∙ with_more-none old)
+-- a run that stopped has written nothing more
+pub stopped-known : (known : Option (List ℕ)) (ending : Ending) → known ≡ with_more known (bytes_of (stopped ending))
+stopped-known known ending = with_more-none known
 
 -- ---- lines without output
 
 pub blank-goes : (number : ℕ) (state : State) (line : List ℕ) (known : Option (List ℕ)) → blank ≡ line_of line → LineGives number state line state Next known known
-blank-goes number state line known is = λ lines.
-    reached-itself (run_lines number state (line ∷ lines)) (run_lines (number + 1) state lines) known (run-line number state line lines blank is)
+blank-goes number state line known is = λ close lines.
+    reached-itself (run_lines close number state (line ∷ lines)) (run_lines close (number + 1) state lines) known (run-line close number state line lines blank is)
 
-pub faulty-stops : (number : ℕ) (state : State) (line : List ℕ) (known : Option (List ℕ)) → faulty ≡ line_of line
-    → LineGives number state line state (Stop (status.TraceFault number fault.Unbuilt)) known known
-faulty-stops number state line known is = λ lines.
-    let e = run-line number state line lines faulty is in
-    (refl, ap (λ played. played.ending) e, with_more-none known ∙ ap (λ played. with_more known (bytes_of played)) (sym e))
+pub faulty-stops : (number : ℕ) (state : State) (line : List ℕ) (known : Option (List ℕ)) (kind : TraceFault) → faulty kind ≡ line_of line
+    → LineGives number state line state (Stop (status.TraceFault number kind)) known known
+faulty-stops number state line known kind is = λ close lines.
+    let e = run-line close number state line lines (faulty kind) is in
+    (ap (λ played. played.ending) e, with_more-none known ∙ ap (λ played. with_more known (bytes_of played)) (sym e))
 
 -- ---- the end of the trace
 
-nothing_left : (rest : List ℕ) → true ≡ (length rest == 0) → rest ≡ []
-nothing_left [] is = refl
-nothing_left (byte ∷ bytes) is = absurd (grind (arith, nat_tests))
+reached-end : (whole : Played) (close : ℕ → State → Played) (number : ℕ) (state : State) (lines : List (List ℕ)) (old now : Option (List ℕ)) → lines ≡ []
+    → Reached whole (run_lines close number state lines) old now → Reached whole (close number state) old now
+reached-end whole close number state lines old now none reached =
+    let e = ap (run_lines close number state) none ∙ run-nothing close number state in rw e at reached
 
-no_lines : trace_lines [] ≡ []
-unfolding trace_lines
-no_lines = refl
+cut-close : (is_cut : Bool) (trace rest : List ℕ) (number : ℕ) (state : State) → is_cut ≡ true → (is_cut ≡ true → open_line trace ≡ open_line rest)
+    → (is_cut ≡ true → open_line rest ≡ rest) → close_of is_cut trace number state ≡ stopped (cut_off rest too_long number)
+cut-close true trace rest number state cut same tail = ap (λ t. stopped (cut_off t too_long number)) (same cut ∙ tail cut)
+cut-close false trace rest number state cut same tail = absurd (cc)
 
-pub reached-end : (whole : Played) (number : ℕ) (state : State) (rest : List ℕ) (old now : Option (List ℕ)) → true ≡ (length rest == 0)
-    → Reached whole (run_lines number state (trace_lines rest)) old now → Reached whole (run_lines number state []) old now
-reached-end whole number state rest old now is reached =
-    let e = ap trace_lines (nothing_left rest is) ∙ no_lines in rw e at reached
+whole-close : (is_cut : Bool) (trace : List ℕ) (number : ℕ) (state : State) → is_cut ≡ false → close_of is_cut trace number state ≡ ended number state
+whole-close true trace number state cut = absurd (cc)
+whole-close false trace number state cut = refl
+
+-- behind the lines of a trace that was cut off
+pub reached-cut : (whole : Played) (is_cut : Bool) (trace rest : List ℕ) (number : ℕ) (state : State) (old now : Option (List ℕ)) → is_cut ≡ true
+    → (is_cut ≡ true → open_line trace ≡ open_line rest) → (is_cut ≡ true → open_line rest ≡ rest) → lines_in is_cut rest ≡ []
+    → Reached whole (run_lines (close_of is_cut trace) number state (lines_in is_cut rest)) old now → Reached whole (stopped (cut_off rest too_long number)) old now
+reached-cut whole is_cut trace rest number state old now cut same tail none reached =
+    let end = reached-end whole (close_of is_cut trace) number state (lines_in is_cut rest) old now none reached in
+    let e = cut-close is_cut trace rest number state cut same tail in rw e at end
+
+-- behind the lines of a whole trace
+pub reached-whole : (whole : Played) (is_cut : Bool) (trace rest : List ℕ) (number : ℕ) (state : State) (old now : Option (List ℕ)) → is_cut ≡ false → lines_in is_cut rest ≡ []
+    → Reached whole (run_lines (close_of is_cut trace) number state (lines_in is_cut rest)) old now → Reached whole (ended number state) old now
+reached-whole whole is_cut trace rest number state old now cut none reached =
+    let end = reached-end whole (close_of is_cut trace) number state (lines_in is_cut rest) old now none reached in
+    let e = whole-close is_cut trace number state cut in rw e at end

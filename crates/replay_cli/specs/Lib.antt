@@ -1,5 +1,7 @@
 pub mod Statuses
 pub mod Runs
-pub mod Appended
+pub mod Orders
 pub mod Lines
 pub mod Steps
+pub mod SetUps
+pub mod Appended

@@ -1,51 +1,161 @@
 -- What a run asks for, writes and leaves, by its status.
-use Rattle.std.specs.Prelude.{ℕ, ◌≡◌, ◌⊎◌, ◌++◌, ◌&&◌, Bool, List, [], ◌∷◌, take, Option, Some, None, if◌then◌else◌}
-use Rattle.std.specs.Prelude.{codes}
+use Rattle.std.specs.Prelude.{ℕ, ◌≡◌, ◌++◌, Bool, List, [], ◌∷◌, map, take, Option, Some, None, if◌then◌else◌, Result, Ok, Err, codes}
+use Rattle.std.specs.Option.{option_map}
 use Rattle.std.specs.List.{concat}
 use Rattle.std.specs.Str.{bytes_eq}
 use Rattle.edit_base.specs.declared.bounds.TheConstants.Limits.{TRACE_BYTES}
-use Rattle.edit_model.specs.Output.{Played, finished, faulty_line, too_long, bytes_of, play}
+use Rattle.edit_model.specs.declared.faults.SettingsFault.{SettingsFault}
+use Rattle.edit_model.specs.declared.settings.Settings.{Settings}
+use Rattle.edit_model.specs.Settings.{built_in, read_settings}
+use Rattle.edit_model.specs.Output.{Played, Ending, finished, faulty_line, too_long, unset, bytes_of, play, check, under}
 use Rattle.replay_io.specs.Outside.{Asked, begun_name, with_more, TookMore}
 use Rattle.replay_cli.specs.declared.status.Status.{Status}
 use Rattle.replay_cli.specs.declared.status.Status.TheVariants as status
-use Rattle.replay_cli.specs.declared.status.TraceFault.TheVariants as fault
+use Rattle.replay_cli.specs.declared.requests.Task.{Task}
+use Rattle.replay_cli.specs.declared.requests.Task.TheVariants.{Play, Check}
 
--- the trace's name, where the words are `play - TRACE`
-abbrev pub trace_of : List (List ℕ) → Option (List ℕ)
-trace_of [] = None
-trace_of (word ∷ []) = None
-trace_of (word ∷ settings ∷ []) = None
-trace_of (word ∷ settings ∷ name ∷ []) = if bytes_eq word (codes "play") && bytes_eq settings (codes "-") then Some name else None
-trace_of (word ∷ settings ∷ name ∷ more ∷ others) = None
+-- what the words ask for: to run a trace or to read it alone, the settings' file if there is one, and the trace's file
+pub record Order : Type 0 where
+  pub task : Task
+  pub settings : Option (List ℕ)
+  pub trace : List ℕ
 
--- the names that a run asks for: the trace's, once, or none where it ended before
-abbrev pub AsksFor : Option (List ℕ) → Status → List Asked → List Asked → Type 0
+-- `-` stands for the built-in settings
+abbrev pub settings_name : List ℕ → Option (List ℕ)
+settings_name word = if bytes_eq word (codes "-") then None else Some word
+
+abbrev pub order : Task → List ℕ → List ℕ → Order
+order task settings trace = record { task = task; settings = settings_name settings; trace = trace }
+
+abbrev pub named_task : List ℕ → Option Task
+named_task word = if bytes_eq word (codes "play") then Some Play else (if bytes_eq word (codes "check") then Some Check else None)
+
+-- the words are `play SETTINGS TRACE` or `check SETTINGS TRACE`
+abbrev pub order_of : List (List ℕ) → Option Order
+order_of [] = None
+order_of (word ∷ []) = None
+order_of (word ∷ settings ∷ []) = None
+order_of (word ∷ settings ∷ trace ∷ []) = option_map (λ task. order task settings trace) (named_task word)
+order_of (word ∷ settings ∷ trace ∷ more ∷ others) = None
+
+-- ---- names
+
+-- the names that a run asks for, one after the other
+abbrev pub name_list : Option (List ℕ) → List ℕ → List (List ℕ)
+name_list None trace = trace ∷ []
+name_list (Some settings) trace = settings ∷ trace ∷ []
+
+abbrev pub names_of : Order → List (List ℕ)
+names_of it = name_list it.settings it.trace
+
+-- the first of the names were begun
+pub record BeganSome (names : List (List ℕ)) (old new : List Asked) : Type 0 where
+  pub begun : List (List ℕ)
+  pub others : List (List ℕ)
+  pub are : names ≡ begun ++ others
+  pub is : new ≡ old ++ map begun_name begun
+
+-- the first of the names were begun, and the next one was asked for
+pub record AskedNext (names : List (List ℕ)) (old new : List Asked) : Type 0 where
+  pub begun : List (List ℕ)
+  pub next : Asked
+  pub others : List (List ℕ)
+  pub are : names ≡ begun ++ next.name ∷ others
+  pub is : new ≡ old ++ map begun_name begun ++ next ∷ []
+
+-- the settings alone were begun
+abbrev pub BeganSettings : Option (List ℕ) → List Asked → List Asked → Type 0
+BeganSettings None old new = ⊥
+BeganSettings (Some settings) old new = new ≡ old ++ begun_name settings ∷ []
+
+abbrev pub AsksFor : Option Order → Status → List Asked → List Asked → Type 0
 AsksFor None answer old new = new ≡ old
-AsksFor (Some name) status.Done old new = new ≡ old ++ begun_name name ∷ []
-AsksFor (Some name) status.Usage old new = ⊥
-AsksFor (Some name) (status.TraceFault line kind) old new = new ≡ old ++ begun_name name ∷ []
-AsksFor (Some name) status.ReadFault old new = (begun : Bool) × (new ≡ old ++ record { name = name; begun = begun } ∷ [])
-AsksFor (Some name) status.WriteFault old new = new ≡ old ++ begun_name name ∷ []
-AsksFor (Some name) status.NoMemory old new = (new ≡ old) ⊎ (new ≡ old ++ begun_name name ∷ [])
-AsksFor (Some name) status.TraceTooLong old new = new ≡ old ++ begun_name name ∷ []
+AsksFor (Some it) status.Done old new = new ≡ old ++ map begun_name (names_of it)
+AsksFor (Some it) status.Usage old new = ⊥
+AsksFor (Some it) (status.TraceFault line kind) old new = new ≡ old ++ map begun_name (names_of it)
+AsksFor (Some it) (status.SettingsFault kind) old new = BeganSettings it.settings old new
+AsksFor (Some it) status.ReadFault old new = AskedNext (names_of it) old new
+AsksFor (Some it) status.WriteFault old new = new ≡ old ++ map begun_name (names_of it)
+AsksFor (Some it) status.NoMemory old new = BeganSome (names_of it) old new
+AsksFor (Some it) status.TraceTooLong old new = new ≡ old ++ map begun_name (names_of it)
 
--- what a run of a trace that was read whole has written, by its status; a status that can't come has no case
+-- ---- output
+
+-- what a run of a trace that was read has written, by its status; a status that can't come has no case
 abbrev pub Writes : Played → Status → Option (List ℕ) → Option (List ℕ) → Type 0
 Writes played status.Done old new = (played.ending ≡ finished) × (new ≡ with_more old (bytes_of played))
 Writes played status.Usage old new = ⊥
-Writes played (status.TraceFault line kind) old new =
-    (kind ≡ fault.Unbuilt) × (played.ending ≡ faulty_line line) × (new ≡ with_more old (bytes_of played))
+Writes played (status.TraceFault line kind) old new = (played.ending ≡ faulty_line line kind) × (new ≡ with_more old (bytes_of played))
+Writes played (status.SettingsFault kind) old new = ⊥
 Writes played status.ReadFault old new = ⊥
 Writes played status.WriteFault old new = (count : ℕ) × (new ≡ with_more old (take count (bytes_of played)))
 Writes played status.NoMemory old new = (count : ℕ) × (new ≡ with_more old (concat (take count played.commands)))
-Writes played status.TraceTooLong old new = ⊥
+Writes played status.TraceTooLong old new = (played.ending ≡ too_long) × (new ≡ with_more old (bytes_of played))
 
--- what a run leaves, by its status, where the store tells the trace: what is left of it, and what was written
-abbrev pub Leaves : List ℕ → Status → Option (List ℕ) → Option (List ℕ) → Option (List ℕ) → Type 0
-Leaves trace status.Done left old new = (left ≡ Some []) × Writes (play trace) status.Done old new
-Leaves trace status.Usage left old new = ⊥
-Leaves trace (status.TraceFault line kind) left old new = (left ≡ Some []) × Writes (play trace) (status.TraceFault line kind) old new
-Leaves trace status.ReadFault left old new = new ≡ old
-Leaves trace status.WriteFault left old new = (left ≡ Some []) × Writes (play trace) status.WriteFault old new
-Leaves trace status.NoMemory left old new = Writes (play trace) status.NoMemory old new
-Leaves trace status.TraceTooLong left old new = ((play trace).ending ≡ too_long) × TookMore TRACE_BYTES trace left × (new ≡ old)
+-- what a trace gives under a task
+abbrev pub given : Task → List ℕ → Played
+given Play trace = play trace
+given Check trace = check trace
+
+-- what is left of a trace and was written, by the status, where the settings have a reading
+abbrev pub LeavesTrace : Task → List ℕ → Status → Option (List ℕ) → Option (List ℕ) → Option (List ℕ) → Type 0
+LeavesTrace task trace status.Done left old new = (left ≡ Some []) × Writes (given task trace) status.Done old new
+LeavesTrace task trace status.Usage left old new = ⊥
+LeavesTrace task trace (status.TraceFault line kind) left old new = Writes (given task trace) (status.TraceFault line kind) old new
+LeavesTrace task trace (status.SettingsFault kind) left old new = ⊥
+LeavesTrace task trace status.ReadFault left old new = new ≡ old
+LeavesTrace task trace status.WriteFault left old new = Writes (given task trace) status.WriteFault old new
+LeavesTrace task trace status.NoMemory left old new = Writes (given task trace) status.NoMemory old new
+LeavesTrace task trace status.TraceTooLong left old new = TookMore TRACE_BYTES trace left × Writes (given task trace) status.TraceTooLong old new
+
+-- where the settings have a fault, nothing of the trace is read and nothing written
+abbrev pub LeavesUnset : SettingsFault → Status → Option (List ℕ) → Option (List ℕ) → Type 0
+LeavesUnset found status.Done old new = ⊥
+LeavesUnset found status.Usage old new = ⊥
+LeavesUnset found (status.TraceFault line kind) old new = ⊥
+LeavesUnset found (status.SettingsFault kind) old new = (kind ≡ found) × (new ≡ old)
+LeavesUnset found status.ReadFault old new = new ≡ old
+LeavesUnset found status.WriteFault old new = ⊥
+LeavesUnset found status.NoMemory old new = new ≡ old
+LeavesUnset found status.TraceTooLong old new = ⊥
+
+-- the settings have no fault, and the words a form
+abbrev pub IsSet : Status → Type 0
+IsSet status.Done = Unit {0}
+IsSet status.Usage = ⊥
+IsSet (status.TraceFault line kind) = Unit {0}
+IsSet (status.SettingsFault kind) = ⊥
+IsSet status.ReadFault = Unit {0}
+IsSet status.WriteFault = Unit {0}
+IsSet status.NoMemory = Unit {0}
+IsSet status.TraceTooLong = Unit {0}
+
+-- what a run leaves, where the store tells the settings and the trace
+abbrev pub Leaves : Task → Option (Result Settings SettingsFault) → Option (List ℕ) → Status → Option (List ℕ) → Option (List ℕ) → Option (List ℕ) → Type 0
+Leaves task None trace answer left old new = Unit {0}
+Leaves task (Some (Err found)) trace answer left old new = LeavesUnset found answer old new
+Leaves task (Some (Ok settings)) None answer left old new = IsSet answer
+Leaves task (Some (Ok settings)) (Some trace) answer left old new = LeavesTrace task trace answer left old new
+
+-- ---- what the store tells
+
+-- the settings that were asked for, where the store tells them
+abbrev pub told_settings : Option (List ℕ) → (List ℕ → Option (List ℕ)) → Option (Result Settings SettingsFault)
+told_settings None stands = Some (Ok built_in)
+told_settings (Some name) stands = option_map read_settings (stands name)
+
+-- what words ask for, where they ask for something
+abbrev pub LeavesFor : Option Order → (List ℕ → Option (List ℕ)) → Status → Option (List ℕ) → Option (List ℕ) → Option (List ℕ) → Type 0
+LeavesFor None stands answer left old new = new ≡ old
+LeavesFor (Some it) stands answer left old new = Leaves it.task (told_settings it.settings stands) (stands it.trace) answer left old new
+
+abbrev pub IsReady : Task → Option (Result Settings SettingsFault) → Option (List ℕ) → Type 0
+IsReady task None trace = ⊥
+IsReady task (Some (Err found)) trace = ⊥
+IsReady task (Some (Ok settings)) None = ⊥
+IsReady task (Some (Ok settings)) (Some trace) = (given task trace).ending ≡ finished
+
+-- the settings have a reading and every line that isn't blank is a command, the trace being within its limit
+abbrev pub IsComplete : Option Order → (List ℕ → Option (List ℕ)) → Type 0
+IsComplete None stands = ⊥
+IsComplete (Some it) stands = IsReady it.task (told_settings it.settings stands) (stands it.trace)

@@ -1,13 +1,25 @@
 -- One line of a run.
-use Rattle.std.specs.Prelude.{ℕ, ◌≡◌, ◌+◌, ◌++◌, List, ◌∷◌, take, Option}
+use Rattle.std.specs.Prelude.{ℕ, ◌≡◌, ◌+◌, ◌++◌, Bool, true, false, List, ◌∷◌, take, Option, Result, Ok, Err}
 use Rattle.std.specs.List.{concat}
 use Rattle.edit_model.specs.State.{State}
-use Rattle.edit_model.specs.Output.{Played, run_lines}
+use Rattle.edit_model.specs.Output.{Played, run_lines, check_lines, ended, overrun, checked, overrun_check}
+use Rattle.edit_model.specs.Lines.{open_line}
 use Rattle.replay_io.specs.Outside.{with_more}
 use Rattle.replay_cli.specs.declared.player.LineEnd.{LineEnd}
 use Rattle.replay_cli.specs.declared.player.LineEnd.TheVariants.{Next, Stop}
+use Rattle.replay_cli.specs.declared.status.Status.{Status}
 use Rattle.replay_cli.specs.declared.status.Status.TheVariants as status
 use Rattle.replay_cli.specs.Runs.{Writes}
+
+-- what stands behind the lines of a trace, or of the front of one that was cut off
+abbrev pub close_of : Bool → List ℕ → ℕ → State → Played
+close_of true trace = overrun (open_line trace)
+close_of false trace = ended
+
+-- the same where the lines are read alone
+abbrev pub close_check : Bool → List ℕ → ℕ → ℕ → Played
+close_check true trace = overrun_check (open_line trace)
+close_check false trace = checked
 
 -- the bytes of several commands in front
 abbrev pub behind_all : List (List ℕ) → Played → Played
@@ -19,12 +31,12 @@ pub record Reached (whole left : Played) (old now : Option (List ℕ)) : Type 0 
   pub is : whole ≡ behind_all pieces left
   pub written : now ≡ with_more old (concat pieces)
 
--- whatever lines follow a line: the run goes on behind it, or has ended there
+-- whatever lines follow a line, and whatever stands behind them: the run goes on behind it, or has ended there
 abbrev pub LineGives : ℕ → State → List ℕ → State → LineEnd → Option (List ℕ) → Option (List ℕ) → Type 0
-LineGives number state line after Next old new = (lines : List (List ℕ)) →
-    Reached (run_lines number state (line ∷ lines)) (run_lines (number + 1) after lines) old new
-LineGives number state line after (Stop answer) old new = (lines : List (List ℕ)) →
-    Writes (run_lines number state (line ∷ lines)) answer old new
+LineGives number state line after Next old new = (close : ℕ → State → Played) (lines : List (List ℕ)) →
+    Reached (run_lines close number state (line ∷ lines)) (run_lines close (number + 1) after lines) old new
+LineGives number state line after (Stop answer) old new = (close : ℕ → State → Played) (lines : List (List ℕ)) →
+    Writes (run_lines close number state (line ∷ lines)) answer old new
 
 -- a command's bytes were written, and the text is the one behind it, or the run has ended with a prefix of them
 abbrev pub CommandGives : List ℕ → State → State → LineEnd → Option (List ℕ) → Option (List ℕ) → Type 0
@@ -32,7 +44,15 @@ CommandGives bytes behind after Next old new = (after ≡ behind) × (new ≡ wi
 CommandGives bytes behind after (Stop status.Done) old new = ⊥
 CommandGives bytes behind after (Stop status.Usage) old new = ⊥
 CommandGives bytes behind after (Stop (status.TraceFault line kind)) old new = ⊥
+CommandGives bytes behind after (Stop (status.SettingsFault kind)) old new = ⊥
 CommandGives bytes behind after (Stop status.ReadFault) old new = ⊥
 CommandGives bytes behind after (Stop status.WriteFault) old new = (count : ℕ) × (new ≡ with_more old (take count bytes))
 CommandGives bytes behind after (Stop status.NoMemory) old new = new ≡ old
 CommandGives bytes behind after (Stop status.TraceTooLong) old new = ⊥
+
+-- a line that is read alone holds so many commands, whatever lines follow it, or ends the reading, with nothing written
+abbrev pub CheckGives : ℕ → List ℕ → Result ℕ Status → Type 0
+CheckGives number line (Ok more) = (close : ℕ → ℕ → Played) (count : ℕ) (lines : List (List ℕ)) →
+    check_lines close number count (line ∷ lines) ≡ check_lines close (number + 1) (count + more) lines
+CheckGives number line (Err answer) = (close : ℕ → ℕ → Played) (count : ℕ) (lines : List (List ℕ)) (known : Option (List ℕ)) →
+    Writes (check_lines close number count (line ∷ lines)) answer known known

@@ -1,14 +1,13 @@
 //! The lines of a trace.
 
-ghost use Rattle.std.specs.Prelude.{◌≡◌, ◌≢◌, ◌<◌, [], ◌∷◌, ◌==◌, length, position, IfOk};
+ghost use Rattle.std.specs.Prelude.{◌≡◌, ◌<◌, [], ◌∷◌, ◌==◌, true, length, position, IfOk, IfSome, MatchOption};
 ghost use Rattle.std.specs.List.{list_all};
-ghost use Rattle.edit_model.specs.Lines.{trace_lines, is_blank, is_blank_byte};
+ghost use Rattle.edit_model.specs.Lines.{open_line, is_blank, is_blank_byte};
 ghost use Rattle.edit_model.specs.Output.{line_of};
-ghost use Rattle.replay_cli.specs.Lines.{line_from};
+ghost use Rattle.replay_cli.specs.Lines.{line_from, lines_in};
 
-use crate::reading::command_of;
 use edit_base::{Limits, NoMemory};
-use edit_model::Command;
+use edit_model::{Command, TraceFault};
 use std::alloc::Global;
 
 /// What a line of a trace is.
@@ -18,20 +17,25 @@ pub enum TraceLine {
     Blank,
     /// A command.
     Command(Command),
-    /// Neither of the two.
-    Faulty,
+    /// A line with this fault.
+    Faulty(TraceFault),
 }
 
-/// The bytes up to the first `\n` and those behind it. Without a `\n` all bytes are the line, and none are behind it.
+/// The next line of these bytes, and what stands behind its `\n`. Where more bytes of the trace were cut off, only a
+/// line whose `\n` stands here counts; else the bytes behind the last `\n` are a line too.
 #[tactic(auto, using(crate::proofs::Cutting::cutting))]
-pub fn first_line(bytes: &[u8]) -> (&[u8], &[u8])
-    requires { bytes.now ≢ [] }
-    ensures lines { trace_lines bytes.now ≡ result.0.now ∷ trace_lines result.1.now }
-    ensures shorter { length result.1.now < length bytes.now }
+pub fn next_line(bytes: &[u8], is_cut: bool) -> Option<(&[u8], &[u8])>
+    ensures lines { MatchOption result (lines_in is_cut bytes.now ≡ [])
+        (λ pair. lines_in is_cut bytes.now ≡ pair.0.now ∷ lines_in is_cut pair.1.now) }
+    ensures tail { MatchOption result (is_cut ≡ true → open_line bytes.now ≡ bytes.now)
+        (λ pair. is_cut ≡ true → open_line bytes.now ≡ open_line pair.1.now) }
+    ensures shorter { IfSome result (λ pair. length pair.1.now < length bytes.now) }
 {
     match line_length(bytes) {
-        Some(end) => (&bytes[..end], &bytes[end + 1..]),
-        None => (bytes, &[]),
+        Some(end) => Some((&bytes[..end], &bytes[end + 1..])),
+        None if is_cut => None,
+        None if bytes.is_empty() => None,
+        None => Some((bytes, &[])),
     }
 }
 
@@ -68,9 +72,10 @@ pub fn read_line(alloc: Global, line: &[u8]) -> Result<TraceLine, NoMemory>
     if is_blank_line(line) {
         return Ok(TraceLine::Blank);
     }
-    match command_of(alloc, line)? {
-        Some(command) => Ok(TraceLine::Command(command)),
-        None => Ok(TraceLine::Faulty),
+    match trace_words::read_line(alloc, line) {
+        Ok(command) => Ok(TraceLine::Command(command)),
+        Err(TraceFault::NoMemory) => Err(NoMemory),
+        Err(fault) => Ok(TraceLine::Faulty(fault)),
     }
 }
 
@@ -95,19 +100,25 @@ mod tests {
             ("b", 'f'),
         ];
         for (want, kind) in lines {
-            assert!(rt; !trace.is_empty(), "{want}");
-            let (line, behind) = first_line(trace);
+            let Some((line, behind)) = next_line(trace, false) else {
+                return Err(Fail::from("a line is missing"));
+            };
             assert_eq!(rt; line, want.as_bytes());
             let found = match read_line(rt.alloc(), line)? {
                 TraceLine::Blank => 'b',
                 TraceLine::Command(_) => 'c',
-                TraceLine::Faulty => 'f',
+                TraceLine::Faulty(_) => 'f',
             };
             assert_eq!(rt; found, kind, "{want}");
             trace = behind;
         }
-        assert!(rt; trace.is_empty());
-        assert!(rt; first_line(b"b\n").1.is_empty());
+        assert!(rt; next_line(trace, false).is_none());
+        // Where more was cut off, a line without its end doesn't count.
+        assert!(rt; next_line(b"b", true).is_none());
+        assert!(rt;
+            next_line(b"b\n", true).is_some_and(|(line, rest)| line == b"b".as_slice()
+                && rest.is_empty())
+        );
         let mut spaces = Vec::new(rt.alloc());
         spaces.resize(131_072, b' ')?;
         assert!(rt; is_blank_line(&spaces));

@@ -1,22 +1,24 @@
 //! Replays a recorded trace of edits over an editable text, and prints what each command did and the text at the end.
 #![tactic(auto)]
 
+mod checker;
 mod commands;
 mod lines;
 mod player;
 mod printing;
-mod reading;
+mod requests;
 mod run;
 mod status;
 
+pub use checker::check_trace;
 pub use commands::{Room, print_end, run_command};
-pub use lines::{TraceLine, first_line, is_blank_line, read_line};
-pub use player::{LineEnd, play_lines, run_line};
+pub use lines::{TraceLine, is_blank_line, next_line, read_line};
+pub use player::{LineEnd, play_lines, run_line, stop_at};
 pub use printing::{print_entry, print_header, print_units};
-pub use reading::command_of;
 use replay_io::{FileStore, OutSink};
+pub use requests::{Request, Task, request_of};
 pub use run::run;
-pub use status::{Status, TraceFault};
+pub use status::Status;
 use std::alloc::AllocError;
 use std::env;
 use std::io::{self, ErrorKind};

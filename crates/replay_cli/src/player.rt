@@ -1,18 +1,18 @@
 //! The lines of a trace, run one by one over a text.
 
-ghost use Rattle.std.specs.Prelude.{◌≡◌, ◌≤◌, List, [], length, ℕ};
+ghost use Rattle.std.specs.Prelude.{◌≡◌, ◌≢◌, ◌≤◌, true, false, List, Option, length, ℕ};
 ghost use Rattle.edit_model.specs.Reading.{IsFitting};
-ghost use Rattle.edit_model.specs.Lines.{trace_lines};
-ghost use Rattle.edit_model.specs.Output.{command_bytes, state_behind, run_lines};
+ghost use Rattle.edit_model.specs.Output.{command_bytes, state_behind, run_lines, ended, stopped, cut_off, too_long};
 ghost use Rattle.replay_io.specs.Outside.{Rose};
 ghost use Rattle.replay_cli.specs.Runs.{Writes};
-ghost use Rattle.replay_cli.specs.Steps.{LineGives, CommandGives};
+ghost use Rattle.replay_cli.specs.Steps.{LineGives, CommandGives, close_of};
+ghost use Rattle.replay_cli.specs.Lines.{lines_in};
 
 use crate::commands::{Room, print_end, run_command};
-use crate::lines::{TraceLine, first_line, read_line};
-use crate::status::{Status, TraceFault};
-use edit_base::{NoMemory, Steps};
-use edit_model::Command;
+use crate::lines::{TraceLine, next_line, read_line};
+use crate::status::Status;
+use edit_base::{Limits, NoMemory, Steps};
+use edit_model::{Command, TraceFault};
 use replace_engine::SpannedText;
 use replay_io::{Sink, write_all_of};
 use std::alloc::Global;
@@ -27,17 +27,21 @@ pub enum LineEnd {
     Stop(Status),
 }
 
-/// Runs the lines of a trace over a text, and writes the output of each command as soon as it is run, and the end block
-/// behind them.
+/// Runs the lines of a trace over a text, or those of its first bytes where more was cut off. The output of each command
+/// is written as soon as it is run, and the end block behind the last one.
 pub fn play_lines<K: Sink, L: Ledger>(
     alloc: Global,
     trace: &[u8],
+    is_cut: bool,
     text: &mut SpannedText,
     sink: &mut K,
     steps: &mut Steps<L>,
 ) -> Status
     requires { length trace.now ≤ 268435456 }
-    ensures writes { Writes (run_lines 1 text.old.state (trace_lines trace.now)) result (K.written sink.old) (K.written sink.new) }
+    ensures writes { Writes (run_lines (close_of is_cut trace.now) 1 text.old.state (lines_in is_cut trace.now)) result
+        (K.written sink.old) (K.written sink.new) }
+    ensures whole { result ≡ Status.Done → is_cut ≡ false }
+    ensures cut { result ≡ Status.TraceTooLong → is_cut ≡ true }
     ensures failed { result ≡ Status.WriteFault → Rose (K.faults sink.old) (K.faults sink.new) }
     ensures counts { K.faults sink.old ≤ K.faults sink.new }
 {
@@ -46,17 +50,36 @@ pub fn play_lines<K: Sink, L: Ledger>(
         rows: Vec::new(alloc),
     };
     let mut rest = trace;
-    let mut number = 0u32;
-    while !rest.is_empty() {
-        let (line, others) = first_line(rest);
-        rest = others;
-        number += 1;
+    let mut number = 1u32;
+    while let Some((line, others)) = next_line(rest, is_cut) {
         match run_line(alloc, number, line, text, &mut room, sink, steps) {
             LineEnd::Next => (),
             LineEnd::Stop(status) => return status,
         }
+        rest = others;
+        number += 1;
     }
-    finish(text, &mut room.out, sink)
+    if is_cut {
+        stop_at(number, rest)
+    } else {
+        finish(text, &mut room.out, sink)
+    }
+}
+
+/// How a trace over its limit ends behind its lines: these bytes stand behind the last of them.
+pub fn stop_at(number: u32, tail: &[u8]) -> Status
+    ensures stops { (known : Option (List ℕ)) → Writes (stopped (cut_off tail.now too_long number)) result known known }
+    ensures undone { result ≢ Status.Done }
+    ensures unfailed { result ≢ Status.WriteFault }
+{
+    if tail.len() > Limits::LINE_BYTES as usize {
+        Status::TraceFault {
+            line: number,
+            kind: TraceFault::LineTooLong,
+        }
+    } else {
+        Status::TraceTooLong
+    }
 }
 
 /// Runs one line.
@@ -70,16 +93,15 @@ pub fn run_line<K: Sink, L: Ledger>(
     steps: &mut Steps<L>,
 ) -> LineEnd
     ensures gives { LineGives number text.old.state line.now text.new.state result (K.written sink.old) (K.written sink.new) }
+    ensures undone { result ≢ LineEnd.Stop Status.Done }
+    ensures uncut { result ≢ LineEnd.Stop Status.TraceTooLong }
     ensures failed { result ≡ LineEnd.Stop Status.WriteFault → Rose (K.faults sink.old) (K.faults sink.new) }
     ensures counts { K.faults sink.old ≤ K.faults sink.new }
 {
     match read_line(alloc, line) {
         Err(NoMemory) => LineEnd::Stop(Status::NoMemory),
         Ok(TraceLine::Blank) => LineEnd::Next,
-        Ok(TraceLine::Faulty) => LineEnd::Stop(Status::TraceFault {
-            line: number,
-            kind: TraceFault::Unbuilt,
-        }),
+        Ok(TraceLine::Faulty(kind)) => LineEnd::Stop(Status::TraceFault { line: number, kind }),
         Ok(TraceLine::Command(command)) => write_command(number, &command, text, room, sink, steps),
     }
 }
@@ -95,6 +117,8 @@ fn write_command<K: Sink, L: Ledger>(
 ) -> LineEnd
     requires { IsFitting command.now }
     ensures gives { CommandGives (command_bytes number text.old.state command.now) (state_behind text.old.state command.now) text.new.state result (K.written sink.old) (K.written sink.new) }
+    ensures undone { result ≢ LineEnd.Stop Status.Done }
+    ensures uncut { result ≢ LineEnd.Stop Status.TraceTooLong }
     ensures failed { result ≡ LineEnd.Stop Status.WriteFault → Rose (K.faults sink.old) (K.faults sink.new) }
     ensures counts { K.faults sink.old ≤ K.faults sink.new }
 {
@@ -110,7 +134,8 @@ fn write_command<K: Sink, L: Ledger>(
 
 // Writes the end block.
 fn finish<K: Sink>(text: &SpannedText, out: &mut Vec<u8>, sink: &mut K) -> Status
-    ensures writes { (number : ℕ) → Writes (run_lines number text.now.state []) result (K.written sink.old) (K.written sink.new) }
+    ensures writes { (number : ℕ) → Writes (ended number text.now.state) result (K.written sink.old) (K.written sink.new) }
+    ensures uncut { result ≢ Status.TraceTooLong }
     ensures failed { result ≡ Status.WriteFault → Rose (K.faults sink.old) (K.faults sink.new) }
     ensures counts { K.faults sink.old ≤ K.faults sink.new }
 {

@@ -25,6 +25,16 @@ pub fn print_header(number: u32, op: &str, out: &mut Vec<u8>) -> Result<(), NoMe
     push("\n", out)
 }
 
+/// Appends `ok` and how many commands were read. Without memory a part of the line may stand in `out`.
+pub fn print_checked(count: u32, out: &mut Vec<u8>) -> Result<(), NoMemory>
+    ensures ok { OnOk result (out.new.items ≡ out.old.items ++ (codes "ok" ++ spaced (decimal count) ++ line_end)) }
+    ensures err { OnErr result ((more : List ℕ) × (out.new.items ≡ out.old.items ++ more)) }
+{
+    push("ok", out)?;
+    push_number(count, out)?;
+    push("\n", out)
+}
+
 /// Appends the line of one entry of the log. Without memory a part of the line may stand in `out`.
 pub fn print_entry(entry: &LogEntry, out: &mut Vec<u8>) -> Result<(), NoMemory>
     ensures ok { OnOk result (out.new.items ≡ out.old.items ++ entry_line entry.now) }

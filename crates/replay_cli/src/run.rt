@@ -1,24 +1,28 @@
 //! The top call: from words, a store and a sink to a status.
 
-ghost use Rattle.std.specs.Prelude.{◌≡◌, ◌≤◌, ◌<◌, ◌⊎◌, ◌↔◌, List, map, length, Option, Some, None, IfSome, string_bytes, ℕ};
-ghost use Rattle.std.specs.Option.{option_map, option_and_then};
-ghost use Rattle.edit_model.specs.Lines.{trace_lines};
-ghost use Rattle.edit_model.specs.State.{empty_state};
-ghost use Rattle.edit_model.specs.Output.{run_lines, play, finished};
+ghost use Rattle.std.specs.Prelude.{◌≡◌, ◌≤◌, ◌<◌, ◌⊎◌, ◌↔◌, map, true, false, length, List, ℕ, Option, Some, None, IfSome, string_bytes};
+ghost use Rattle.std.specs.Option.{option_map};
 ghost use Rattle.replay_io.specs.Outside.{Rose};
-ghost use Rattle.replay_cli.specs.Runs.{trace_of, AsksFor, Leaves, Writes};
+ghost use Rattle.replay_cli.specs.Runs.{order_of, AsksFor, Leaves, LeavesFor, LeavesTrace, IsComplete, IsSet, told_settings, Writes};
+ghost use Rattle.replay_cli.specs.SetUps.{SetsUp, SetUpAsks, TraceAsks, Settles, given_lines};
+ghost use Rattle.edit_model.specs.Settings.{read_settings as read_settings_of};
 
+use crate::checker::check_trace;
 use crate::player::play_lines;
+use crate::requests::{Task, request_of};
 use crate::status::Status;
 use edit_base::{Limits, NoMemory, Steps};
+use edit_model::{Settings, SettingsFault};
 use replace_engine::SpannedText;
 use replay_io::{ReadEnd, ReadFault, Sink, Store, read_all};
+use settings_reader::{built_in, read_settings};
 use std::alloc::Global;
 use std::marker::Brand;
 use std::sync::ledger::{Blank, Ledger};
 
-/// Runs the program on its words, its own name not among them: `play - TRACE` reads the trace of that name from the
-/// store, runs it over an empty text and writes what each command prints, and the text at the end.
+/// Runs the program on its words, its own name not among them. `play SETTINGS TRACE` reads the settings and the trace
+/// of these names from the store, runs the trace over an empty text and writes what each command prints, and the text
+/// and its spans at the end. `check SETTINGS TRACE` reads the trace alone and writes how many commands it has.
 pub fn run<S: Store, K: Sink>(
     alloc: Global,
     words: &[String],
@@ -26,86 +30,172 @@ pub fn run<S: Store, K: Sink>(
     sink: &mut K,
 ) -> Status
     // The words alone decide this status, and then nothing is asked for and nothing written.
-    ensures usage { (result ≡ Status.Usage) ↔ (trace_of (map string_bytes words.now) ≡ None) }
-    ensures idle { result ≡ Status.Usage → K.written sink.new ≡ K.written sink.old }
+    ensures usage { (result ≡ Status.Usage) ↔ (order_of (map string_bytes words.now) ≡ None) }
 
-    // Where the store tells the trace: what was written, and what is left of the trace.
-    ensures leaves { IfSome (option_and_then (S.stands store.old) (trace_of (map string_bytes words.now)))
-        (λ trace. Leaves trace result (S.left store.new) (K.written sink.old) (K.written sink.new)) }
+    // Where the store tells the settings and the trace: what was written, and what is left of the trace.
+    ensures leaves { LeavesFor (order_of (map string_bytes words.now)) (S.stands store.old) result (S.left store.new)
+        (K.written sink.old) (K.written sink.new) }
 
     // The causes of faults, and the names asked for.
     ensures read_fault { result ≡ Status.ReadFault → Rose (S.faults store.old) (S.faults store.new) }
     ensures unread { result ≡ Status.ReadFault → K.written sink.new ≡ K.written sink.old }
     ensures write_fault { result ≡ Status.WriteFault → Rose (K.faults sink.old) (K.faults sink.new) }
-    ensures asks { AsksFor (trace_of (map string_bytes words.now)) result (S.asked store.old) (S.asked store.new) }
+    ensures asks { AsksFor (order_of (map string_bytes words.now)) result (S.asked store.old) (S.asked store.new) }
 
-    // A trace of commands within its limit is run to its end where no device fails, unless memory is wanting.
-    ensures complete { IfSome (option_and_then (S.stands store.old) (trace_of (map string_bytes words.now)))
-        (λ trace. (play trace).ending ≡ finished → ¬ Rose (S.faults store.old) (S.faults store.new)
-        → ¬ Rose (K.faults sink.old) (K.faults sink.new) → (result ≡ Status.Done) ⊎ (result ≡ Status.NoMemory)) }
+    // Where the settings have a reading, every line is a command and no device fails, a run is done or wants memory.
+    ensures complete { IsComplete (order_of (map string_bytes words.now)) (S.stands store.old)
+        → ¬ Rose (S.faults store.old) (S.faults store.new) → ¬ Rose (K.faults sink.old) (K.faults sink.new)
+        → (result ≡ Status.Done) ⊎ (result ≡ Status.NoMemory) }
 {
-    match trace_name(words) {
+    match request_of(words) {
         None => Status::Usage,
-        Some(name) => play_file(alloc, name, store, sink),
+        Some(request) => run_request(
+            alloc,
+            request.task,
+            request.settings,
+            request.trace,
+            store,
+            sink,
+        ),
     }
 }
 
-// The trace's name, where the words are `play - TRACE`.
-fn trace_name(words: &[String]) -> Option<&str>
-    ensures { option_map (λ name. name.now) result ≡ trace_of (map string_bytes words.now) }
-{
-    match words {
-        [word, settings, name] if word.as_str() == "play" && settings.as_str() == "-" => {
-            Some(name.as_str())
-        }
-        _ => None,
-    }
-}
-
-// Reads the trace whole, and runs it.
-fn play_file<S: Store, K: Sink>(alloc: Global, name: &str, store: &mut S, sink: &mut K) -> Status
-    ensures leaves { IfSome (S.stands store.old name.now)
-        (λ trace. Leaves trace result (S.left store.new) (K.written sink.old) (K.written sink.new)) }
+// Reads the settings, and then runs or checks the trace.
+fn run_request<S: Store, K: Sink>(
+    alloc: Global,
+    task: Task,
+    settings: Option<&str>,
+    trace: &str,
+    store: &mut S,
+    sink: &mut K,
+) -> Status
+    ensures leaves { Leaves task (told_settings (option_map (λ name. name.now) settings.entry) (S.stands store.old))
+        (S.stands store.old trace.now) result (S.left store.new) (K.written sink.old) (K.written sink.new) }
     ensures read_fault { result ≡ Status.ReadFault → Rose (S.faults store.old) (S.faults store.new) }
     ensures unread { result ≡ Status.ReadFault → K.written sink.new ≡ K.written sink.old }
     ensures write_fault { result ≡ Status.WriteFault → Rose (K.faults sink.old) (K.faults sink.new) }
-    ensures asks { AsksFor (Some name.now) result (S.asked store.old) (S.asked store.new) }
+    ensures asks { AsksFor (Some (record { task = task; settings = option_map (λ name. name.now) settings.entry; trace = trace.now }))
+        result (S.asked store.old) (S.asked store.new) }
 {
-    let mut trace = Vec::new(alloc);
-    match read_all(store, name, Limits::TRACE_BYTES, &mut trace) {
-        Ok(ReadEnd::Whole) => play_trace(alloc, trace.as_slice(), sink),
-        Ok(ReadEnd::Over) => Status::TraceTooLong,
+    match set_up(alloc, settings, store) {
+        Err(status) => status,
+        Ok(_settings) => run_trace(alloc, task, trace, store, sink),
+    }
+}
+
+// The settings, or why a run stops before its trace.
+fn set_up<S: Store>(
+    alloc: Global,
+    settings: Option<&str>,
+    store: &mut S,
+) -> Result<Settings, Status>
+    ensures told { SetsUp result (told_settings (option_map (λ name. name.now) settings.entry) (S.stands store.old)) }
+    ensures asks { SetUpAsks (option_map (λ name. name.now) settings.entry) result (S.asked store.old) (S.asked store.new) }
+    ensures read_fault { result ≡ Err Status.ReadFault → Rose (S.faults store.old) (S.faults store.new) }
+    ensures stands { (other : List ℕ) → S.stands store.new other ≡ S.stands store.old other }
+    ensures counts { S.faults store.old ≤ S.faults store.new }
+{
+    match settings {
+        None => match built_in() {
+            Ok(settings) => Ok(settings),
+            Err(NoMemory) => Err(Status::NoMemory),
+        },
+        Some(name) => read_settings_file(alloc, name, store),
+    }
+}
+
+// The settings of a file, or why a run stops there.
+fn read_settings_file<S: Store>(
+    alloc: Global,
+    name: &str,
+    store: &mut S,
+) -> Result<Settings, Status>
+    ensures told { SetsUp result (told_settings (Some name.now) (S.stands store.old)) }
+    ensures asks { SetUpAsks (Some name.now) result (S.asked store.old) (S.asked store.new) }
+    ensures read_fault { result ≡ Err Status.ReadFault → Rose (S.faults store.old) (S.faults store.new) }
+    ensures stands { (other : List ℕ) → S.stands store.new other ≡ S.stands store.old other }
+    ensures counts { S.faults store.old ≤ S.faults store.new }
+{
+    let mut bytes = Vec::new(alloc);
+    match read_all(store, name, Limits::SETTINGS_BYTES, &mut bytes) {
+        Ok(ReadEnd::Whole) => settings_of(alloc, bytes.as_slice()),
+        Ok(ReadEnd::Over) => Err(Status::SettingsFault(SettingsFault::Limit)),
+        Err(ReadFault::Failed) => Err(Status::ReadFault),
+        Err(ReadFault::NoMemory) => Err(Status::NoMemory),
+    }
+}
+
+// The settings that these bytes say, or their fault.
+fn settings_of(alloc: Global, bytes: &[u8]) -> Result<Settings, Status>
+    ensures { Settles result (read_settings_of bytes.now) }
+{
+    match read_settings(alloc, bytes) {
+        Ok(settings) => Ok(settings),
+        Err(SettingsFault::NoMemory) => Err(Status::NoMemory),
+        Err(fault) => Err(Status::SettingsFault(fault)),
+    }
+}
+
+// Reads the trace, whole or up to its limit, and runs or checks it.
+fn run_trace<S: Store, K: Sink>(
+    alloc: Global,
+    task: Task,
+    trace: &str,
+    store: &mut S,
+    sink: &mut K,
+) -> Status
+    ensures leaves { IfSome (S.stands store.old trace.now)
+        (λ bytes. LeavesTrace task bytes result (S.left store.new) (K.written sink.old) (K.written sink.new)) }
+    ensures set { IsSet result }
+    ensures read_fault { result ≡ Status.ReadFault → Rose (S.faults store.old) (S.faults store.new) }
+    ensures unread { result ≡ Status.ReadFault → K.written sink.new ≡ K.written sink.old }
+    ensures write_fault { result ≡ Status.WriteFault → Rose (K.faults sink.old) (K.faults sink.new) }
+    ensures asks { TraceAsks trace.now result (S.asked store.old) (S.asked store.new) }
+    ensures counts { S.faults store.old ≤ S.faults store.new }
+{
+    let mut bytes = Vec::new(alloc);
+    match read_all(store, trace, Limits::TRACE_BYTES, &mut bytes) {
+        Ok(ReadEnd::Whole) => run_bytes(alloc, task, bytes.as_slice(), false, sink),
+        Ok(ReadEnd::Over) => run_bytes(alloc, task, bytes.as_slice(), true, sink),
         Err(ReadFault::Failed) => Status::ReadFault,
         Err(ReadFault::NoMemory) => Status::NoMemory,
     }
 }
 
-// Runs a trace over an empty text.
-fn play_trace<K: Sink>(alloc: Global, trace: &[u8], sink: &mut K) -> Status
-    requires { length trace.now ≤ 268435456 }
-    ensures writes { Writes (run_lines 1 empty_state (trace_lines trace.now)) result (K.written sink.old) (K.written sink.new) }
+// Runs or checks a trace, or the front of one that was cut off.
+fn run_bytes<K: Sink>(alloc: Global, task: Task, bytes: &[u8], is_cut: bool, sink: &mut K) -> Status
+    requires { length bytes.now ≤ 268435456 }
+    ensures writes { Writes (given_lines task is_cut bytes.now) result (K.written sink.old) (K.written sink.new) }
+    ensures whole { result ≡ Status.Done → is_cut ≡ false }
+    ensures cut { result ≡ Status.TraceTooLong → is_cut ≡ true }
     ensures failed { result ≡ Status.WriteFault → Rose (K.faults sink.old) (K.faults sink.new) }
 {
-    play_counted::<K, Brand>(alloc, trace, sink, Blank::new(1))
+    match task {
+        Task::Play => play_counted::<K, Brand>(alloc, bytes, is_cut, sink, Blank::new(1)),
+        Task::Check => check_trace(alloc, bytes, is_cut, sink),
+    }
 }
 
-// The same, with a counter of steps.
+// Runs a trace over an empty text, with a counter of steps.
 fn play_counted<K: Sink, L: Ledger>(
     alloc: Global,
-    trace: &[u8],
+    bytes: &[u8],
+    is_cut: bool,
     sink: &mut K,
     blank: Blank,
 ) -> Status
-    requires within { length trace.now ≤ 268435456 }
+    requires within { length bytes.now ≤ 268435456 }
     requires name { blank.name ≡ L.name }
     requires parts { blank.parts ≡ L.parts }
     requires some { 0 < blank.parts }
-    ensures writes { Writes (run_lines 1 empty_state (trace_lines trace.now)) result (K.written sink.old) (K.written sink.new) }
+    ensures writes { Writes (given_lines Task.Play is_cut bytes.now) result (K.written sink.old) (K.written sink.new) }
+    ensures whole { result ≡ Status.Done → is_cut ≡ false }
+    ensures cut { result ≡ Status.TraceTooLong → is_cut ≡ true }
     ensures failed { result ≡ Status.WriteFault → Rose (K.faults sink.old) (K.faults sink.new) }
 {
     let mut steps = Steps::<L>::start(blank);
     match SpannedText::new(alloc) {
         Err(NoMemory) => Status::NoMemory,
-        Ok(mut text) => play_lines(alloc, trace, &mut text, sink, &mut steps),
+        Ok(mut text) => play_lines(alloc, bytes, is_cut, &mut text, sink, &mut steps),
     }
 }

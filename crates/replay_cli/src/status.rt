@@ -1,19 +1,11 @@
 //! How a run ends.
 
 ghost use Rattle.std.specs.Prelude.{◌≡◌, ◌≤◌, length};
-ghost use Rattle.replay_cli.specs.Statuses.{code_of, status_text, kind_text};
+ghost use Rattle.replay_cli.specs.Statuses.{code_of, status_text, kind_text, setting_text};
 
 use arrayvec::ArrayString;
+use edit_model::{SettingsFault, TraceFault};
 use itoa::Buffer;
-
-/// Why a line of a trace is no command.
-#[derive(Clone, Copy, Debug, PartialEq, Eq)]
-pub enum TraceFault {
-    /// The line asks for nothing that this program does.
-    Unbuilt,
-    /// There was no memory to read it.
-    NoMemory,
-}
 
 /// How a run ended.
 #[derive(Clone, Copy, Debug, PartialEq, Eq)]
@@ -24,6 +16,8 @@ pub enum Status {
     Usage,
     /// This line, counted from 1, is the first that isn't blank and is no command.
     TraceFault { line: u32, kind: TraceFault },
+    /// The settings have this fault.
+    SettingsFault(SettingsFault),
     /// The trace couldn't be read.
     ReadFault,
     /// The output couldn't be written.
@@ -43,6 +37,7 @@ impl Status {
             Status::Done => 0,
             Status::Usage => 1,
             Status::TraceFault { .. } => 2,
+            Status::SettingsFault(_) => 3,
             Status::ReadFault => 4,
             Status::WriteFault => 5,
             Status::NoMemory => 6,
@@ -58,6 +53,7 @@ impl Status {
             Status::Done => text_of(""),
             Status::Usage => text_of("fault usage"),
             Status::TraceFault { line, kind } => line_fault(*line, *kind),
+            Status::SettingsFault(kind) => settings_fault(*kind),
             Status::ReadFault => text_of("fault read"),
             Status::WriteFault => text_of("fault write"),
             Status::NoMemory => text_of("fault memory"),
@@ -87,12 +83,42 @@ fn line_fault(line: u32, kind: TraceFault) -> ArrayString<64>
     text
 }
 
+fn settings_fault(kind: SettingsFault) -> ArrayString<64>
+    ensures { result.bytes ≡ status_text (Status.SettingsFault kind) }
+{
+    let mut text = text_of("fault settings ");
+    text.push_str(setting_words(kind));
+    text
+}
+
 fn kind_words(kind: TraceFault) -> &'static str
     ensures words { result.now ≡ kind_text kind }
     ensures short { length result.now ≤ 20 }
 {
     match kind {
-        TraceFault::Unbuilt => "unbuilt",
+        TraceFault::LineTooLong => "line-too-long",
+        TraceFault::Json => "json",
+        TraceFault::NotObject => "not-object",
+        TraceFault::Op => "op",
+        TraceFault::Field => "field",
+        TraceFault::Missing => "missing",
+        TraceFault::Number => "number",
+        TraceFault::Text => "text",
         TraceFault::NoMemory => "memory",
+    }
+}
+
+fn setting_words(kind: SettingsFault) -> &'static str
+    ensures words { result.now ≡ setting_text kind }
+    ensures short { length result.now ≤ 20 }
+{
+    match kind {
+        SettingsFault::Toml => "toml",
+        SettingsFault::Key => "key",
+        SettingsFault::Value => "value",
+        SettingsFault::Limit => "limit",
+        SettingsFault::Face => "face",
+        SettingsFault::Watcher => "watcher",
+        SettingsFault::NoMemory => "memory",
     }
 }

@@ -1,5 +1,6 @@
 use crate::run::run;
-use crate::status::{Status, TraceFault};
+use crate::status::Status;
+use edit_model::{SettingsFault, TraceFault};
 use replay_io::{MemorySink, MemoryStore, SteadySink, SteadyStore, StoredFile};
 use std::alloc::Global;
 use std::test::Fail;
@@ -27,7 +28,7 @@ const REFUSED_OUTPUT: &str = "> 1 replace\nedit 0 replace 0 0 3 done\n\
 
 const FAULTY: &str = r#"{"op":"replace","start":0,"end":0,"text":"a"}
 
-{"op":"select","start":0,"end":0}
+{"op":"jump"}
 {"op":"replace","start":0,"end":0,"text":"b"}
 "#;
 
@@ -99,6 +100,30 @@ const SPANS: [(&str, &str); 7] = [
     ),
 ];
 
+// Lines that are the whole trace, with their faults.
+const FAULTY_LINES: [(&str, TraceFault); 8] = [
+    (r#"{"op":"remove_span","x":1}"#, TraceFault::Field),
+    (r#"{"op":"remove_span"}"#, TraceFault::Missing),
+    (r#"{"op":"remove_span","id":-1}"#, TraceFault::Number),
+    (
+        r#"{"op":"set_span","id":5,"start":0,"end":0,"flags":34,"what":"tag"}"#,
+        TraceFault::Text,
+    ),
+    ("[]", TraceFault::NotObject),
+    (r#"{"op":"#, TraceFault::Json),
+    (r#"{"op":"finish","x":1}"#, TraceFault::Op),
+    ("\u{0B}", TraceFault::Json),
+];
+
+// Settings files, with their faults.
+const FAULTY_SETTINGS: [(&str, SettingsFault); 5] = [
+    ("depth = 9", SettingsFault::Limit),
+    ("colour = 1", SettingsFault::Key),
+    ("depth = \"4\"", SettingsFault::Value),
+    ("depth =", SettingsFault::Toml),
+    ("depth = 4\nwidth = 0\n", SettingsFault::Limit),
+];
+
 fn texts(alloc: Global, words: &[&str]) -> Result<Vec<String>, Fail> {
     let mut texts = Vec::new(alloc);
     for word in words {
@@ -107,13 +132,34 @@ fn texts(alloc: Global, words: &[&str]) -> Result<Vec<String>, Fail> {
     Ok(texts)
 }
 
-fn trace_file(alloc: Global, trace: &[u8]) -> Result<Vec<StoredFile>, Fail> {
+fn stored(alloc: Global, name: &str, bytes: &[u8]) -> Result<StoredFile, Fail> {
+    Ok(StoredFile {
+        name: String::from_str(alloc, name)?,
+        bytes: Vec::from_slice(alloc, bytes)?,
+    })
+}
+
+// The settings S and the trace T.
+fn files(alloc: Global, settings: &[u8], trace: &[u8]) -> Result<Vec<StoredFile>, Fail> {
     let mut files = Vec::new(alloc);
-    files.push(StoredFile {
-        name: String::from_str(alloc, "T")?,
-        bytes: Vec::from_slice(alloc, trace)?,
-    })?;
+    files.push(stored(alloc, "S", settings)?)?;
+    files.push(stored(alloc, "T", trace)?)?;
     Ok(files)
+}
+
+// The status of a run with these words over the files S and T, and what it has written.
+fn ran(
+    alloc: Global,
+    list: &[&str],
+    settings: &str,
+    trace: &str,
+) -> Result<(Status, Vec<u8>), Fail> {
+    let words = texts(alloc, list)?;
+    let files = files(alloc, settings.as_bytes(), trace.as_bytes())?;
+    let mut store = MemoryStore::new(files, 7, Vec::new(alloc));
+    let mut sink = MemorySink::new(alloc, 4_000_000, 4, Vec::new(alloc))?;
+    let status = run(alloc, words.as_slice(), &mut store, &mut sink);
+    Ok((status, Vec::from_slice(alloc, sink.written())?))
 }
 
 // The status of `play - T` on this trace, and what it has written.
@@ -126,7 +172,7 @@ fn played(
     let words = texts(alloc, &["play", "-", "T"])?;
     let reads = Vec::from_slice(alloc, failing_reads)?;
     let writes = Vec::from_slice(alloc, failing_writes)?;
-    let mut store = MemoryStore::new(trace_file(alloc, trace)?, 7, reads);
+    let mut store = MemoryStore::new(files(alloc, b"", trace)?, 7, reads);
     let mut sink = MemorySink::new(alloc, 4_000_000, 4, writes)?;
     let status = run(alloc, words.as_slice(), &mut store, &mut sink);
     Ok((status, Vec::from_slice(alloc, sink.written())?))
@@ -134,16 +180,13 @@ fn played(
 
 #[test]
 fn traces_give_their_output_and_status(rt: HostRuntime) -> Result<(), Fail> {
-    let unbuilt = |line: u32| Status::TraceFault {
-        line,
-        kind: TraceFault::Unbuilt,
-    };
+    let fault = |line: u32, kind: TraceFault| Status::TraceFault { line, kind };
     let cases: [(&str, &[u32], &[u32], Status, &str); 11] = [
         ("", &[], &[], Status::Done, "end\ntext 0 \"\"\n"),
         (HELLO, &[], &[], Status::Done, HELLO_OUTPUT),
         (REFUSED, &[], &[], Status::Done, REFUSED_OUTPUT),
-        (FAULTY, &[], &[], unbuilt(3), FIRST_LETTER),
-        (" \t\r\n[]", &[], &[], unbuilt(2), ""),
+        (FAULTY, &[], &[], fault(3, TraceFault::Op), FIRST_LETTER),
+        (" \t\r\n[]", &[], &[], fault(2, TraceFault::NotObject), ""),
         // The file can't be begun, a read in mid-stream fails, and the read behind the last byte.
         (HELLO, &[1], &[], Status::ReadFault, ""),
         (HELLO, &[3], &[], Status::ReadFault, ""),
@@ -223,20 +266,70 @@ fn the_text_stays_within_its_limit(rt: HostRuntime) -> Result<(), Fail> {
 }
 
 #[test]
+fn faults_of_lines_and_of_settings(rt: HostRuntime) -> Result<(), Fail> {
+    for (line, kind) in FAULTY_LINES {
+        for task in ["play", "check"] {
+            let (status, written) = ran(rt.alloc(), &[task, "-", "T"], "", line)?;
+            assert_eq!(rt; status, Status::TraceFault { line: 1, kind }, "at {line}");
+            assert!(rt; written.is_empty(), "at {line}");
+        }
+    }
+    for (settings, kind) in FAULTY_SETTINGS {
+        for task in ["play", "check"] {
+            let (status, written) = ran(rt.alloc(), &[task, "S", "T"], settings, HELLO)?;
+            assert_eq!(rt; status, Status::SettingsFault(kind), "at {settings}");
+            assert!(rt; written.is_empty(), "at {settings}");
+        }
+    }
+    Ok(())
+}
+
+#[test]
+fn a_trace_is_checked(rt: HostRuntime) -> Result<(), Fail> {
+    let cases = [
+        (HELLO, Status::Done, "ok 3\n"),
+        ("", Status::Done, "ok 0\n"),
+        ("\n \r\n", Status::Done, "ok 0\n"),
+        (
+            FAULTY,
+            Status::TraceFault {
+                line: 3,
+                kind: TraceFault::Op,
+            },
+            "",
+        ),
+    ];
+    for (trace, want, output) in cases {
+        let (status, written) = ran(rt.alloc(), &["check", "S", "T"], "width = 10\n", trace)?;
+        assert_eq!(rt; status, want, "at {trace}");
+        assert_eq!(rt; written.as_slice(), output.as_bytes(), "at {trace}");
+    }
+    Ok(())
+}
+
+#[test]
 fn words_and_steady_devices(rt: HostRuntime) -> Result<(), Fail> {
-    let cases: [(&[&str], Status); 7] = [
+    let cases: [(&[&str], Status); 11] = [
         (&["play", "-", "T"], Status::Done),
+        (&["play", "S", "T"], Status::Done),
+        (&["check", "-", "T"], Status::Done),
         (&[], Status::Usage),
-        (&["play", "-"], Status::Usage),
-        (&["play", "T", "-"], Status::Usage),
-        (&["check", "-", "T"], Status::Usage),
+        (&["play", "x"], Status::Usage),
+        (&["check", "-"], Status::Usage),
+        (&["make", "-", "T"], Status::Usage),
         (&["play", "-", "T", "T"], Status::Usage),
+        (
+            &["play", "T", "-"],
+            Status::SettingsFault(SettingsFault::Toml),
+        ),
         // A file that isn't there is empty in a steady store.
         (&["play", "-", "-"], Status::Done),
+        (&["play", "nowhere", "nowhere"], Status::Done),
     ];
     for (list, want) in cases {
         let words = texts(rt.alloc(), list)?;
-        let mut store = SteadyStore::new(trace_file(rt.alloc(), HELLO.as_bytes())?, 100);
+        let files = files(rt.alloc(), b"depth = 0\n", HELLO.as_bytes())?;
+        let mut store = SteadyStore::new(files, 100);
         let status = run(
             rt.alloc(),
             words.as_slice(),
@@ -250,14 +343,33 @@ fn words_and_steady_devices(rt: HostRuntime) -> Result<(), Fail> {
 
 #[test]
 fn statuses_have_codes_and_texts(rt: HostRuntime) {
-    let fault = Status::TraceFault {
+    let fault = |kind: TraceFault| Status::TraceFault {
         line: 4_294_967_295,
-        kind: TraceFault::Unbuilt,
+        kind,
     };
     let cases = [
         (Status::Done, 0, ""),
         (Status::Usage, 1, "fault usage"),
-        (fault, 2, "fault line 4294967295 unbuilt"),
+        (
+            fault(TraceFault::LineTooLong),
+            2,
+            "fault line 4294967295 line-too-long",
+        ),
+        (
+            fault(TraceFault::NotObject),
+            2,
+            "fault line 4294967295 not-object",
+        ),
+        (
+            Status::SettingsFault(SettingsFault::Watcher),
+            3,
+            "fault settings watcher",
+        ),
+        (
+            Status::SettingsFault(SettingsFault::Toml),
+            3,
+            "fault settings toml",
+        ),
         (Status::ReadFault, 4, "fault read"),
         (Status::WriteFault, 5, "fault write"),
         (Status::NoMemory, 6, "fault memory"),
@@ -269,20 +381,35 @@ fn statuses_have_codes_and_texts(rt: HostRuntime) {
     }
 }
 
-#[test]
-fn a_trace_over_its_limit_is_not_run(rt: HostRuntime) -> Result<(), Fail> {
-    let mut trace = Vec::from_slice(rt.alloc(), HELLO.as_bytes())?;
-    trace.resize(268_435_457, b'\n')?;
-    let words = texts(rt.alloc(), &["play", "-", "T"])?;
-    let mut files = Vec::new(rt.alloc());
+// The status of `play - T` on a trace over its limit, its first lines being these, and how many bytes were written.
+fn overrun(alloc: Global, fill: u8) -> Result<(Status, usize), Fail> {
+    let mut trace = Vec::from_slice(alloc, HELLO.as_bytes())?;
+    trace.resize(268_435_457, fill)?;
+    let words = texts(alloc, &["play", "-", "T"])?;
+    let mut files = Vec::new(alloc);
     files.push(StoredFile {
-        name: String::from_str(rt.alloc(), "T")?,
+        name: String::from_str(alloc, "T")?,
         bytes: trace,
     })?;
     let mut store = SteadyStore::new(files, 1_000_000);
-    let mut sink = MemorySink::new(rt.alloc(), 100, 100, Vec::new(rt.alloc()))?;
-    let status = run(rt.alloc(), words.as_slice(), &mut store, &mut sink);
+    let mut sink = MemorySink::new(alloc, 4_000, 100, Vec::new(alloc))?;
+    let status = run(alloc, words.as_slice(), &mut store, &mut sink);
+    Ok((status, sink.written().len()))
+}
+
+#[test]
+fn lines_within_the_limit_are_run(rt: HostRuntime) -> Result<(), Fail> {
+    let commands = HELLO_OUTPUT.len() - "end\ntext 4 \"hxyo\"\n".len();
+    let (status, count) = overrun(rt.alloc(), b'\n')?;
     assert_eq!(rt; status, Status::TraceTooLong);
-    assert!(rt; sink.written().is_empty());
+    assert_eq!(rt; count, commands);
+    // A line that is too long already stands behind them.
+    let (status, count) = overrun(rt.alloc(), b' ')?;
+    let fault = Status::TraceFault {
+        line: 4,
+        kind: TraceFault::LineTooLong,
+    };
+    assert_eq!(rt; status, fault);
+    assert_eq!(rt; count, commands);
     Ok(())
 }

@@ -3,9 +3,10 @@ use Rattle.std.proofs.Common.{refl}
 use Rattle.std.specs.Fmt.{digits}
 use Rattle.std.specs.Str.{is_utf8, chars}
 use Rattle.serde_json.proofs.OnLiterals.{serde_json_on_literals}
+use Rattle.edit_model.specs.Words.{words_of}
 use Rattle.edit_model.specs.Reading.{read_command}
 use Rattle.edit_model.proofs.examples.reads_lines.Goals as goal
 
 pub returns : goal.returns
-unfolding serde_json_on_literals is_utf8 chars digits read_command
+unfolding serde_json_on_literals is_utf8 chars digits words_of read_command
 returns c = (refl, refl, refl, refl, refl, refl)

@@ -1,7 +1,6 @@
 -- The rows over the range so far, each at its order.
 use Rattle.std.proofs.Common.{◌≡◌, ◌&&◌, take}
 use Rattle.std.specs.List.{All, filter}
-use Rattle.edit_model.specs.Changed.{span_of}
 use Rattle.edit_model.specs.Over.{is_picked, lies_over}
 use Rattle.replace_engine.specs.Rows.{spans_in, IsAtOrder}
 use Rattle.replace_engine.proofs.queries.find.Given as goal

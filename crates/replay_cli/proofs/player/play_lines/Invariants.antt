@@ -1,15 +1,18 @@
 -- The lines so far have given their output, and the others give the rest.
-use Rattle.std.proofs.Common.{◌≤◌, ◌+◌, length}
-use Rattle.edit_model.specs.Lines.{trace_lines}
+use Rattle.std.proofs.Common.{◌≡◌, ◌≤◌, ◌+◌, length, true}
+use Rattle.edit_model.specs.Lines.{open_line}
 use Rattle.edit_model.specs.Output.{run_lines}
-use Rattle.replay_cli.specs.Steps.{Reached}
+use Rattle.replay_cli.specs.Lines.{lines_in}
+use Rattle.replay_cli.specs.Steps.{Reached, close_of}
 use Rattle.replay_cli.proofs.player.play_lines.Given as goal
 
-abbrev pub invariant-loop-rest : goal.invariant-loop-rest
-invariant-loop-rest g l =
-    (l.number + length l.rest ≤ length l.fn.trace)
-    × Reached (run_lines 1 l.fn.text.state (trace_lines l.fn.trace)) (run_lines (l.number + 1) l.text.state (trace_lines l.rest)) (g.K.Sink.written l.fn.sink) (g.K.Sink.written l.sink)
+abbrev pub invariant-loop-line : goal.invariant-loop-line
+invariant-loop-line g l =
+    (l.number + length l.rest ≤ length l.fn.trace + 1)
+    × Reached (run_lines (close_of l.fn.is_cut l.fn.trace) 1 l.fn.text.state (lines_in l.fn.is_cut l.fn.trace))
+    (run_lines (close_of l.fn.is_cut l.fn.trace) l.number l.text.state (lines_in l.fn.is_cut l.rest)) (g.K.Sink.written l.fn.sink) (g.K.Sink.written l.sink)
     × (g.K.Sink.faults l.fn.sink ≤ g.K.Sink.faults l.sink)
+    × (l.fn.is_cut ≡ true → open_line l.fn.trace ≡ open_line l.rest)
 
-abbrev pub decreases-loop-rest : goal.decreases-loop-rest
-decreases-loop-rest g l = length l.rest
+abbrev pub decreases-loop-line : goal.decreases-loop-line
+decreases-loop-line g l = length l.rest

@@ -9,7 +9,7 @@ pub returns-in-Ok-Blank-clause-gives : goal.returns-in-Ok-Blank-clause-gives
 returns-in-Ok-Blank-clause-gives g c = blank-goes c.args.number c.args.text.now.state c.args.line.now _ (rw c.in-Ok-Blank.field-0-is at c.in-Ok-Blank.ensures)
 
 pub returns-in-Ok-Faulty-clause-gives : goal.returns-in-Ok-Faulty-clause-gives
-returns-in-Ok-Faulty-clause-gives g c = faulty-stops c.args.number c.args.text.now.state c.args.line.now _ (rw c.in-Ok-Faulty.field-0-is at c.in-Ok-Faulty.ensures)
+returns-in-Ok-Faulty-clause-gives g c = faulty-stops c.args.number c.args.text.now.state c.args.line.now _ c.in-Ok-Faulty.kind (rw c.in-Ok-Faulty.field-0-is at c.in-Ok-Faulty.ensures)
 
 pub returns-in-Ok-Command-clause-gives : goal.returns-in-Ok-Command-clause-gives
 returns-in-Ok-Command-clause-gives g c =

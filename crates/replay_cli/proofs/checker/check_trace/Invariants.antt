@@ -1,0 +1,18 @@
+-- The lines so far were counted, and nothing was written.
+use Rattle.std.proofs.Common.{◌≡◌, ◌≤◌, ◌+◌, length, true}
+use Rattle.edit_model.specs.Lines.{open_line}
+use Rattle.edit_model.specs.Output.{check_lines}
+use Rattle.replay_cli.specs.Lines.{lines_in}
+use Rattle.replay_cli.specs.Steps.{close_check}
+use Rattle.replay_cli.proofs.checker.check_trace.Given as goal
+
+abbrev pub invariant-loop-line : goal.invariant-loop-line
+invariant-loop-line g l =
+    (l.number + length l.rest ≤ length l.fn.trace + 1)
+    × (l.count + 1 ≤ l.number)
+    × (check_lines (close_check l.fn.is_cut l.fn.trace) 1 0 (lines_in l.fn.is_cut l.fn.trace)
+    ≡ check_lines (close_check l.fn.is_cut l.fn.trace) l.number l.count (lines_in l.fn.is_cut l.rest))
+    × (l.fn.is_cut ≡ true → open_line l.fn.trace ≡ open_line l.rest)
+
+abbrev pub decreases-loop-line : goal.decreases-loop-line
+decreases-loop-line g l = length l.rest

@@ -1,0 +1,11 @@
+//! The settings of a run: those built in, and those that a file sets.
+#![tactic(auto)]
+
+mod keys;
+mod reading;
+
+pub use edit_model::{Settings, SettingsFault};
+pub use reading::{built_in, read_settings};
+
+#[cfg(test)]
+mod tests;

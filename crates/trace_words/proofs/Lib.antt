@@ -1,0 +1,5 @@
+pub mod Json
+pub mod Numbers
+pub mod Rows
+pub mod Cuts
+pub mod Faults

@@ -1,0 +1,14 @@
+//! The table of operations, and what a line of a trace asks for.
+#![tactic(auto)]
+
+mod fields;
+mod reading;
+mod table;
+mod words;
+
+pub use edit_model::{Command, TraceFault};
+pub use reading::read_line;
+pub use table::{OpTable, op_table};
+
+#[cfg(test)]
+mod tests;

@@ -1,0 +1,70 @@
+//! The table of operations.
+
+ghost use Rattle.std.specs.Prelude.{◌≡◌, map};
+ghost use Rattle.std.specs.List.{IsDistinct};
+ghost use Rattle.std.specs.Str.{bytes_eq};
+ghost use Rattle.edit_model.specs.Operations.{operations};
+ghost use Rattle.trace_words.specs.Table.{operation_by, shown, table};
+
+use std::marker::Model;
+
+/// Which operation a row is.
+#[derive(Clone, Copy)]
+pub(crate) enum Kind {
+    Replace,
+    SetSpan,
+    RemoveSpan,
+    SpansOver,
+    NextEdge,
+}
+
+/// An operation: its name, and the names of its fields.
+#[derive(Clone, Copy)]
+pub(crate) struct Operation {
+    pub(crate) kind: Kind,
+    pub(crate) name: &'static str,
+    pub(crate) fields: &'static [&'static str],
+}
+
+/// The operations that are built, each with the names of its fields.
+#[derive(Drop)]
+pub struct OpTable<const N: usize> {
+    rows: [Operation; N],
+}
+
+impl<const N: usize> Model for OpTable<N> {
+    ghost use Rattle.std.specs.Prelude.{List, map};
+    ghost use Rattle.trace_words.specs.Table.{Named, shown};
+
+    ghost Value = { List Named };
+
+    ghost view = { λ it. map shown it.rows };
+}
+
+/// Rows, each a kind and a name with the names of the fields behind it.
+macro_rules! rows {
+    ($($kind:ident $name:literal: $($field:literal)*;)+) => {
+        [$(Operation { kind: Kind::$kind, name: $name, fields: &[$($field),*] }),+]
+    };
+}
+
+pub(crate) fn rows() -> [Operation; 5]
+    ensures kinds { map (λ it. operation_by it.kind) result ≡ operations }
+    ensures names { map shown result ≡ table }
+{
+    rows! {
+        Replace "replace": "start" "end" "text";
+        SetSpan "set_span": "id" "start" "end" "flags" "what";
+        RemoveSpan "remove_span": "id";
+        SpansOver "spans_over": "start" "end";
+        NextEdge "next_edge": "start" "limit";
+    }
+}
+
+/// The table of every operation.
+pub fn op_table() -> OpTable<5>
+    ensures rows { result ≡ table }
+    ensures names { IsDistinct bytes_eq (map (λ it. it.name) result) }
+{
+    OpTable { rows: rows() }
+}
