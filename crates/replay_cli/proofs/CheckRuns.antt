@@ -1,9 +1,9 @@
 -- Lines that are read alone.
-use Rattle.std.proofs.Common.{◌≡◌, ℕ, ◌+◌, Bool, true, false, List, [], ◌∷◌, Option, refl, sym, ap, ◌∙◌, add-zero, take}
+use Rattle.std.proofs.Common.{◌≡◌, ℕ, ◌+◌, Bool, true, false, List, [], ◌∷◌, Option, refl, sym, ap, ◌∙◌, add-zero}
 use Rattle.edit_model.specs.declared.commands.Command.{Command}
 use Rattle.edit_model.specs.declared.faults.TraceFault.{TraceFault}
 use Rattle.edit_model.specs.Lines.{open_line}
-use Rattle.edit_model.specs.Output.{Line, blank, command, faulty, line_of, line_check, check_lines, checked, cut_off, too_long, Played, Ending, stopped, faulty_line, bytes_of}
+use Rattle.edit_model.specs.Output.{Line, blank, command, faulty, line_of, line_check, check_lines, checked, cut_off, too_long, Played, stopped, bytes_of}
 use Rattle.replay_io.specs.Outside.{with_more}
 use Rattle.replay_cli.specs.declared.status.Status.{Status}
 use Rattle.replay_cli.specs.declared.status.Status.TheVariants as status

@@ -1,8 +1,9 @@
 -- What a run asks for and leaves, by its settings and its trace.
-use Rattle.std.proofs.Common.{◌≡◌, ℕ, ◌<◌, ◌≤◌, ◌++◌, Bool, true, false, List, [], ◌∷◌, length, map, Option, Some, None, Result, Ok, Err, IfSome, cond, refl, sym, ap, ◌∙◌, inl, inr, append_assoc, arith}
+use Rattle.std.proofs.Common.{◌≡◌, ℕ, ◌<◌, ◌++◌, List, [], ◌∷◌, length, map, Option, Some, None, Result, Ok, Err, IfSome, refl, sym, ap, ◌∙◌, inl, inr, append_assoc, arith}
 use Rattle.std.specs.Prelude.{nat_lt, ◌⊎◌}
 use Rattle.std.specs.Option.{option_map}
 use Rattle.std.proofs.lemmas.List.{append-nil}
+use Rattle.std.proofs.lemmas.Bool.{cond-true}
 use Rattle.std.proofs.lemmas.Bool.Decides.{nat_tests}
 use Rattle.edit_base.specs.declared.bounds.TheConstants.Limits.{SETTINGS_BYTES}
 use Rattle.edit_model.specs.declared.faults.SettingsFault.{SettingsFault}
@@ -16,19 +17,15 @@ use Rattle.replay_io.specs.Outside.{Asked, begun_name, Gains, AsksOnce}
 use Rattle.replay_cli.specs.declared.status.Status.{Status}
 use Rattle.replay_cli.specs.declared.status.Status.TheVariants as status
 use Rattle.replay_cli.specs.declared.requests.Task.{Task}
-use Rattle.replay_cli.specs.Runs.{Order, name_list, BeganSome, AskedNext, BeganSettings, AsksFor, Writes, given, LeavesTrace, LeavesUnset, Leaves, IsSet, IsReady}
+use Rattle.replay_cli.specs.Runs.{name_list, BeganSome, AskedNext, AsksFor, given, LeavesTrace, Leaves, IsSet, IsReady}
 use Rattle.replay_cli.specs.SetUps.{SetsUp, settings_list, SetUpAsks, TraceAsks, Settles}
 use Rattle.replay_cli.proofs.Known.{with_more-none}
 
 -- ---- a settings file
 
-chosen_first : {X : Type 0} (test : Bool) (a b : X) → test ≡ true → cond test a b ≡ a
-chosen_first true a b is = refl
-chosen_first false a b is = absurd (cc)
-
 settings-long : (bytes : List ℕ) → SETTINGS_BYTES < length bytes → read_settings bytes ≡ Err setting.Limit
 unfolding read_settings
-settings-long bytes long = chosen_first (nat_lt SETTINGS_BYTES (length bytes)) (Err setting.Limit) (read_document (toml_of bytes)) (grind (arith, nat_tests))
+settings-long bytes long = cond-true (nat_lt SETTINGS_BYTES (length bytes)) (Err setting.Limit) (read_document (toml_of bytes)) (grind (arith, nat_tests))
 
 pub told-over : (told : Option (List ℕ)) (gained : List ℕ) (left : Option (List ℕ)) → Gains (Ok Over) told SETTINGS_BYTES gained left
     → IfSome (option_map read_settings told) (λ found. found ≡ Err setting.Limit)

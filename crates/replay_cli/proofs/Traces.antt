@@ -1,6 +1,7 @@
 -- A trace that was read, whole or up to its limit.
-use Rattle.std.proofs.Common.{◌≡◌, ℕ, ◌<◌, ◌≤◌, Bool, true, false, List, [], length, take, Option, Some, None, Ok, IfSome, cond, refl, sym, ap, ◌∙◌, arith}
+use Rattle.std.proofs.Common.{◌≡◌, ℕ, ◌<◌, ◌≤◌, true, false, List, [], length, take, Option, Some, None, Ok, IfSome, refl, sym, ap, ◌∙◌, arith}
 use Rattle.std.specs.Prelude.{nat_lt}
+use Rattle.std.proofs.lemmas.Bool.{cond-true, cond-false}
 use Rattle.std.proofs.lemmas.Bool.Decides.{nat_tests}
 use Rattle.edit_base.specs.declared.bounds.TheConstants.Limits.{TRACE_BYTES}
 use Rattle.edit_model.specs.State.{empty_state}
@@ -15,27 +16,19 @@ use Rattle.replay_cli.specs.declared.requests.Task.TheVariants.{Play, Check}
 use Rattle.replay_cli.specs.SetUps.{given_lines}
 use Rattle.replay_cli.specs.Runs.{given, Writes, LeavesTrace, IsSet}
 
-chosen : {X : Type 0} (test : Bool) (a b : X) → test ≡ false → cond test a b ≡ b
-chosen true a b is = absurd (cc)
-chosen false a b is = refl
-
-chosen_first : {X : Type 0} (test : Bool) (a b : X) → test ≡ true → cond test a b ≡ a
-chosen_first true a b is = refl
-chosen_first false a b is = absurd (cc)
-
 given-within : (task : Task) (trace : List ℕ) → length trace ≤ TRACE_BYTES → given task trace ≡ given_lines task false trace
 unfolding play check
 given-within Play trace within =
-    chosen (nat_lt TRACE_BYTES (length trace)) (run_lines (overrun (open_line (within_limit trace))) 1 empty_state (ended_lines (within_limit trace))) (run_lines ended 1 empty_state (trace_lines trace)) (grind (arith, nat_tests))
+    cond-false (nat_lt TRACE_BYTES (length trace)) (run_lines (overrun (open_line (within_limit trace))) 1 empty_state (ended_lines (within_limit trace))) (run_lines ended 1 empty_state (trace_lines trace)) (grind (arith, nat_tests))
 given-within Check trace within =
-    chosen (nat_lt TRACE_BYTES (length trace)) (check_lines (overrun_check (open_line (within_limit trace))) 1 0 (ended_lines (within_limit trace))) (check_lines checked 1 0 (trace_lines trace)) (grind (arith, nat_tests))
+    cond-false (nat_lt TRACE_BYTES (length trace)) (check_lines (overrun_check (open_line (within_limit trace))) 1 0 (ended_lines (within_limit trace))) (check_lines checked 1 0 (trace_lines trace)) (grind (arith, nat_tests))
 
 given-over : (task : Task) (trace : List ℕ) → TRACE_BYTES < length trace → given task trace ≡ given_lines task true (take TRACE_BYTES trace)
 unfolding play check
 given-over Play trace over =
-    chosen_first (nat_lt TRACE_BYTES (length trace)) (run_lines (overrun (open_line (within_limit trace))) 1 empty_state (ended_lines (within_limit trace))) (run_lines ended 1 empty_state (trace_lines trace)) (grind (arith, nat_tests))
+    cond-true (nat_lt TRACE_BYTES (length trace)) (run_lines (overrun (open_line (within_limit trace))) 1 empty_state (ended_lines (within_limit trace))) (run_lines ended 1 empty_state (trace_lines trace)) (grind (arith, nat_tests))
 given-over Check trace over =
-    chosen_first (nat_lt TRACE_BYTES (length trace)) (check_lines (overrun_check (open_line (within_limit trace))) 1 0 (ended_lines (within_limit trace))) (check_lines checked 1 0 (trace_lines trace)) (grind (arith, nat_tests))
+    cond-true (nat_lt TRACE_BYTES (length trace)) (check_lines (overrun_check (open_line (within_limit trace))) 1 0 (ended_lines (within_limit trace))) (check_lines checked 1 0 (trace_lines trace)) (grind (arith, nat_tests))
 
 leaves : (task : Task) (trace : List ℕ) (answer : Status) (left old new : Option (List ℕ)) → left ≡ Some [] → (answer ≡ status.TraceTooLong → false ≡ true)
     → Writes (given task trace) answer old new → LeavesTrace task trace answer left old new

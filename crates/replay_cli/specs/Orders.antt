@@ -1,5 +1,4 @@
 -- A request, as the order that it stands for.
-use Rattle.std.specs.Prelude.{List, ℕ, Option}
 use Rattle.std.specs.Option.{option_map}
 use Rattle.replay_cli.specs.declared.requests.Request.{Request}
 use Rattle.replay_cli.specs.Runs.{Order}

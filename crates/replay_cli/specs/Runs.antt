@@ -1,5 +1,5 @@
 -- What a run asks for, writes and leaves, by its status.
-use Rattle.std.specs.Prelude.{ℕ, ◌≡◌, ◌++◌, Bool, List, [], ◌∷◌, map, take, Option, Some, None, if◌then◌else◌, Result, Ok, Err, codes}
+use Rattle.std.specs.Prelude.{ℕ, ◌≡◌, ◌++◌, List, [], ◌∷◌, map, take, Option, Some, None, if◌then◌else◌, Result, Ok, Err, codes}
 use Rattle.std.specs.Option.{option_map}
 use Rattle.std.specs.List.{concat}
 use Rattle.std.specs.Str.{bytes_eq}
@@ -7,7 +7,7 @@ use Rattle.edit_base.specs.declared.bounds.TheConstants.Limits.{TRACE_BYTES}
 use Rattle.edit_model.specs.declared.faults.SettingsFault.{SettingsFault}
 use Rattle.edit_model.specs.declared.settings.Settings.{Settings}
 use Rattle.edit_model.specs.Settings.{built_in, read_settings}
-use Rattle.edit_model.specs.Output.{Played, Ending, finished, faulty_line, too_long, unset, bytes_of, play, check, under}
+use Rattle.edit_model.specs.Output.{Played, finished, faulty_line, too_long, bytes_of, play, check}
 use Rattle.replay_io.specs.Outside.{Asked, begun_name, with_more, TookMore}
 use Rattle.replay_cli.specs.declared.status.Status.{Status}
 use Rattle.replay_cli.specs.declared.status.Status.TheVariants as status

@@ -1,5 +1,5 @@
 -- A line gives its output, and the lines before it gave theirs.
-use Rattle.std.proofs.Common.{◌∙◌, ◌+◌, arith}
+use Rattle.std.proofs.Common.{◌∙◌, arith}
 use Rattle.replay_cli.specs.Lines.{lines_in}
 use Rattle.replay_cli.specs.Steps.{close_of}
 use Rattle.replay_cli.proofs.LineRuns.{reached-twice, writes_behind, reached-cut, reached-whole}
