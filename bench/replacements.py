@@ -4,7 +4,8 @@
 usage: bench/replacements.py [COUNT]      COUNT: how many replacements (default 2000)
 
 Runs the built program on a trace that only sets up text and spans, and on the same trace with COUNT replacements
-behind it, at the text's end, in its middle and at its start, and prints the difference for each.
+behind it, and prints the difference for each kind: of one unit at the text's end, in its middle and at its start; of
+one unit that brings 64 spans whose ids are attached; and of 60,000 units with as many, plain and through four filters.
 """
 import json
 import pathlib
@@ -14,7 +15,10 @@ import tempfile
 import time
 
 PROGRAM = pathlib.Path(__file__).resolve().parent.parent / "crates/replay_cli/out/replay_cli"
-UNITS, SPANS, BLOCK = 1_000_000, 4_096, 50_000
+UNITS, SPANS, BLOCK, PIECE = 1_000_000, 4_096, 50_000, 60_000
+FILTERS = """filter = [{ kind = "upper" }, { kind = "no-newline" }, { kind = "length", max = 1048576 },
+    { kind = "allow", ranges = [[32, 32], [65, 90]] }]
+"""
 
 
 def line(**members):
@@ -30,13 +34,30 @@ def setup():
     return "".join(lines)
 
 
-def seconds(trace, folder):
-    path = pathlib.Path(folder) / "trace"
+def replace(start, end, text, **members):
+    return line(op="replace", start=start, end=end, text=text, **members)
+
+
+def kinds():
+    """The name of a kind, the settings that it runs under, and one replacement."""
+    piece = "abcdefghi " * (PIECE // 10)
+    brought = [f"{16 + at} 0 1 17 tag 1" for at in range(64)]
+    yield "of a unit at the end", "", replace(UNITS, UNITS, "x")
+    yield "of a unit in the middle", "", replace(UNITS // 2, UNITS // 2, "x")
+    yield "of a unit at the start", "", replace(0, 0, "x")
+    yield "of a unit that brings 64 spans", "", replace(0, 0, "x", spans=brought)
+    yield "of 60,000 units", "", replace(0, PIECE, piece)
+    yield "of 60,000 units, filtered", FILTERS, replace(0, PIECE, piece)
+
+
+def seconds(settings, trace, folder):
+    path, settings_path = pathlib.Path(folder) / "trace", pathlib.Path(folder) / "settings"
     path.write_text(trace)
+    settings_path.write_text(settings)
     best = None
     for _ in range(3):
         start = time.perf_counter()
-        subprocess.run([PROGRAM, "play", "-", path], stdout=subprocess.DEVNULL, check=True)
+        subprocess.run([PROGRAM, "play", settings_path, path], stdout=subprocess.DEVNULL, check=True)
         took = time.perf_counter() - start
         best = took if best is None else min(best, took)
     return best
@@ -48,12 +69,10 @@ def main():
         sys.exit("bench: the program is not built: run ./replay once")
     base = setup()
     with tempfile.TemporaryDirectory() as folder:
-        idle = seconds(base, folder)
-        print(f"text and spans alone: {idle:.2f} s")
-        for where, at in (("at the end", UNITS), ("in the middle", UNITS // 2), ("at the start", 0)):
-            edits = "".join(line(op="replace", start=at, end=at, text="x") for _ in range(count))
-            took = seconds(base + edits, folder) - idle
-            print(f"{count} replacements {where}: {took:.2f} s, {1e6 * took / count:.0f} us each")
+        for name, settings, edit in kinds():
+            idle = seconds(settings, base, folder)
+            took = seconds(settings, base + edit * count, folder) - idle
+            print(f"{count} replacements {name}: {took:.2f} s, {1e6 * took / count:.0f} us each (set up in {idle:.2f} s)")
 
 
 if __name__ == "__main__":

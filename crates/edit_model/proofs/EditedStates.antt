@@ -1,44 +1,31 @@
 -- Every edit leads from a well formed state to a well formed state.
-use Rattle.std.proofs.Common.{◌≡◌, ℕ, ℤ, pos, negsuc, ◌<◌, ◌≤◌, ◌&&◌, ◌||◌, Bool, true, false, not, ltb, length, refl, sym, ap, ◌∙◌, inl, inr, arith}
-use Rattle.std.specs.Prelude.{int_lt}
+use Rattle.std.proofs.Common.{◌≡◌, ℕ, ℤ, pos, ◌<◌, ◌≤◌, ◌&&◌, Bool, true, false, not, length, refl, sym, ap, ◌∙◌, inl, inr, arith}
 use Rattle.std.specs.Ordering.{int_eq}
+use Rattle.std.specs.List.{All}
 use Rattle.std.proofs.lemmas.Bool.{or_parts, ltb-false, cases_lt, false≢true}
 use Rattle.std.proofs.lemmas.Bool.Decides.{Decides-int_eq}
 use Rattle.edit_base.specs.declared.kinds.What.{What}
+use Rattle.edit_base.specs.declared.bounds.TheConstants.Limits.{TEXT, SPANS}
 use Rattle.edit_base.specs.declared.rows.Incoming.{Incoming}
+use Rattle.edit_model.specs.Replaced.{spliced_length, replaced}
 use Rattle.edit_base.specs.declared.verdicts.Verdict.{Verdict}
 use Rattle.edit_base.specs.declared.verdicts.Verdict.TheVariants.{Done, NoChange, Ignored, Absent, Refused}
 use Rattle.edit_model.specs.declared.steps.Step.{Step}
 use Rattle.edit_model.specs.declared.steps.Step.TheVariants as step
-use Rattle.edit_model.specs.State.{Span, State, place}
+use Rattle.edit_model.specs.State.{Span, State, place, ArePlaces}
 use Rattle.edit_model.specs.Flags.{kind_of, is_point_mark, is_paragraph}
 use Rattle.edit_model.specs.Boundaries.{is_boundary}
-use Rattle.edit_model.specs.WellFormed.{IsKeptRight, IsSpanOver, IsWellFormed, IsSeated, is_kept_what}
+use Rattle.edit_model.specs.WellFormed.{IsSpanOver, IsWellFormed, IsSeated, is_kept_what}
+use Rattle.edit_model.specs.Brought.{IsOrdered}
+use Rattle.edit_model.specs.Laws.{BringsOrdered}
 use Rattle.edit_model.specs.Verdicts.{first_of, replace_lines, set_lines, remove_lines, judged, is_kept_id}
 use Rattle.edit_model.specs.Changed.{on_done, stepped, state_after}
-use Rattle.edit_model.proofs.Tables.{none_applies, NoneApplies}
+use Rattle.edit_model.proofs.Tables.{none_applies, NoneApplies, places_pass}
+use Rattle.edit_model.proofs.Newcomers.{all_may_come, kept_right-free}
 use Rattle.edit_model.proofs.Replacements.{well_formed-replaced, seated-replaced}
 use Rattle.edit_model.proofs.AttachedSpans.{well_formed-with_span, seated-with_span, well_formed-without_span, seated-without_span}
 
 -- ---- what the tests of a table say where they don't apply
-
--- places lie in the text, in order
-pub record ArePlaces (last : ℕ) (start end : ℤ) : Type 0 where
-  pub starts : start ≡ pos (place start)
-  pub ends : end ≡ pos (place end)
-  pub ordered : place start ≤ place end
-  pub within : place end ≤ last
-
-pub places_pass : (last : ℕ) (start end : ℤ) → int_lt end start ≡ false → (int_lt (pos last) start || int_lt (pos last) end) ≡ false
-    → (int_lt start (pos 0) || int_lt end (pos 0)) ≡ false → ArePlaces last start end
-places_pass last (pos s) (pos e) ordered beyond below = record {
-  starts = refl;
-  ends = refl;
-  ordered = ltb-false _ _ ordered;
-  within = ltb-false _ _ (or_parts (ltb last s) (ltb last e) beyond).1;
-}
-places_pass last (pos s) (negsuc e) ordered beyond below = absurd (cc)
-places_pass last (negsuc s) end ordered beyond below = absurd (cc)
 
 -- the places of a span that may not be empty differ
 filled_unless : (last : ℕ) (start end : ℤ) (point_mark : Bool) → ArePlaces last start end → (point_mark && int_eq start end) ≡ false → point_mark ≡ true → place start < place end
@@ -56,23 +43,42 @@ boundary_unless true true broken is = refl
 boundary_unless true false broken is = absurd (cc)
 boundary_unless false boundary broken is = absurd (cc)
 
-kept_right-free : (span : Span) → 2 < span.id → is_kept_what span.what ≡ false → IsKeptRight span
-kept_right-free span free other =
-    (λ zero. absurd (omega arith), λ one. absurd (omega arith), λ two. absurd (omega arith), λ far. other)
-
 -- ---- each kind of edit
 
 -- the span that a set attaches
 abbrev pub set_span : ℕ → ℤ → ℤ → ℕ → What → Span
 set_span id start end flags what = record { id = id; start = place start; end = place end; flags = flags; what = what }
 
-pub well_formed-replace : (state : State) (start end : ℤ) (incoming : Incoming) → first_of (replace_lines state start end incoming) ≡ Done → IsWellFormed state
-    → IsWellFormed (stepped state (step.Replace start end incoming))
-unfolding stepped
-well_formed-replace state start end incoming is_done formed =
+-- a replacement that is done: its places lie in the text, in order, and neither units nor spans are too many then
+pub record Passes (state : State) (start end : ℤ) (incoming : Incoming) : Type 0 where
+  pub places : ArePlaces (length state.units) start end
+  pub short : spliced_length (length state.units) (place start) (place end) (length incoming.units) ≤ TEXT
+  pub few : length (replaced state (place start) (place end) incoming).spans ≤ SPANS
+
+pub passes : (state : State) (slots : ℕ) (start end : ℤ) (incoming : Incoming) → judged state slots (step.Replace start end incoming) ≡ Done → Passes state start end incoming
+unfolding judged
+passes state slots start end incoming is_done =
     let n = none_applies (replace_lines state start end incoming) refl is_done in
-    let p = places_pass (length state.units) start end n.0 n.1.0 n.1.1.0 in
-    well_formed-replaced state (place start) (place end) incoming p.ordered p.within (ltb-false _ _ n.1.1.1.1.0) formed
+    record {
+      places = places_pass (length state.units) start end n.1.1.0 n.1.1.1.0 n.1.1.1.1.0;
+      short = ltb-false _ _ n.1.1.1.1.1.1.0;
+      few = ltb-false _ _ n.1.1.1.1.1.1.1.0;
+    }
+
+pub well_formed-replace : (state : State) (start end : ℤ) (incoming : Incoming) → first_of (replace_lines state start end incoming) ≡ Done → All IsOrdered incoming.spans
+    → IsWellFormed state → IsWellFormed (stepped state (step.Replace start end incoming))
+unfolding judged stepped
+well_formed-replace state start end incoming is_done in_order formed =
+    let n = none_applies (replace_lines state start end incoming) refl is_done in
+    let p = passes state 0 start end incoming is_done in
+    well_formed-replaced state (place start) (place end) incoming p.places.ordered p.places.within (all_may_come incoming in_order n.0 n.1.0) p.short p.few formed
+
+pub seated-replace : (slots : ℕ) (state : State) (start end : ℤ) (incoming : Incoming) → first_of (replace_lines state start end incoming) ≡ Done
+    → IsSeated slots state.spans → IsSeated slots (stepped state (step.Replace start end incoming)).spans
+unfolding stepped
+seated-replace slots state start end incoming is_done seated =
+    let n = none_applies (replace_lines state start end incoming) refl is_done in
+    seated-replaced slots state (place start) (place end) incoming n.0 seated
 
 module _ (state : State) (slots id : ℕ) (start end : ℤ) (flags : ℕ) (what : What) (is_done : first_of (set_lines state slots id start end flags what) ≡ Done) where
   set_passes : NoneApplies (set_lines state slots id start end flags what)
@@ -113,15 +119,15 @@ well_formed-remove state id is_done formed =
 
 -- ---- every edit
 
-pub well_formed-stepped : (state : State) (slots : ℕ) (asked : Step) → judged state slots asked ≡ Done → IsWellFormed state → IsWellFormed (stepped state asked)
+pub well_formed-stepped : (state : State) (slots : ℕ) (asked : Step) → judged state slots asked ≡ Done → BringsOrdered asked → IsWellFormed state → IsWellFormed (stepped state asked)
 unfolding judged
-well_formed-stepped state slots (step.Replace start end incoming) is_done formed = well_formed-replace state start end incoming is_done formed
-well_formed-stepped state slots (step.Set id start end flags what) is_done formed = well_formed-set state slots id start end flags what is_done formed
-well_formed-stepped state slots (step.Remove id) is_done formed = well_formed-remove state id is_done formed
+well_formed-stepped state slots (step.Replace start end incoming) is_done in_order formed = well_formed-replace state start end incoming is_done in_order formed
+well_formed-stepped state slots (step.Set id start end flags what) is_done in_order formed = well_formed-set state slots id start end flags what is_done formed
+well_formed-stepped state slots (step.Remove id) is_done in_order formed = well_formed-remove state id is_done formed
 
 pub seated-stepped : (state : State) (slots : ℕ) (asked : Step) → judged state slots asked ≡ Done → IsWellFormed state → IsSeated slots state.spans → IsSeated slots (stepped state asked).spans
 unfolding judged stepped
-seated-stepped state slots (step.Replace start end incoming) is_done formed seated = seated-replaced slots state (place start) (place end) incoming seated
+seated-stepped state slots (step.Replace start end incoming) is_done formed seated = seated-replace slots state start end incoming is_done seated
 seated-stepped state slots (step.Set id start end flags what) is_done formed seated = seated-set state slots id start end flags what is_done formed seated
 seated-stepped state slots (step.Remove id) is_done formed seated = seated-without_span slots id state.spans seated
 
@@ -133,9 +139,9 @@ by_verdict P Ignored done kept changed same = same
 by_verdict P Absent done kept changed same = same
 by_verdict P (Refused refusal) done kept changed same = same
 
-pub well_formed-after : (state : State) (slots : ℕ) (asked : Step) → IsWellFormed state → IsWellFormed (state_after state slots asked)
-well_formed-after state slots asked formed =
-    by_verdict IsWellFormed (judged state slots asked) (stepped state asked) state (λ is_done. well_formed-stepped state slots asked is_done formed) formed
+pub well_formed-after : (state : State) (slots : ℕ) (asked : Step) → BringsOrdered asked → IsWellFormed state → IsWellFormed (state_after state slots asked)
+well_formed-after state slots asked in_order formed =
+    by_verdict IsWellFormed (judged state slots asked) (stepped state asked) state (λ is_done. well_formed-stepped state slots asked is_done in_order formed) formed
 
 pub seated-after : (state : State) (slots : ℕ) (asked : Step) → IsWellFormed state → IsSeated slots state.spans → IsSeated slots (state_after state slots asked).spans
 seated-after state slots asked formed seated =

@@ -1,30 +1,32 @@
--- The table of a set where too many spans would stand.
-use Rattle.std.proofs.Common.{◌≡◌, ◌≤◌, ℕ, ◌+◌, ℤ, ◌⊎◌, Bool, true, false, cond, List, [], ◌∷◌, length, refl, inl, inr, arith}
-use Rattle.std.specs.Prelude.{nat_lt}
+-- The tables of sets and replacements where too many spans would stand.
+use Rattle.std.proofs.Common.{◌≡◌, ◌≢◌, ◌≤◌, ℕ, ◌+◌, ℤ, ◌||◌, Bool, true, false, cond, length, refl, arith}
+use Rattle.std.specs.Prelude.{nat_lt, int_lt}
+use Rattle.std.proofs.lemmas.Bool.{ltb-false}
 use Rattle.std.proofs.lemmas.Bool.Decides.{nat_tests}
 use Rattle.edit_base.specs.declared.kinds.What.{What}
-use Rattle.edit_base.specs.declared.bounds.TheConstants.Limits.{SPANS}
+use Rattle.edit_base.specs.declared.rows.Incoming.{Incoming}
+use Rattle.edit_base.specs.declared.bounds.TheConstants.Limits.{TEXT, SPANS}
 use Rattle.edit_base.specs.declared.verdicts.Verdict.{Verdict}
-use Rattle.edit_base.specs.declared.verdicts.Verdict.TheVariants.{Done, Refused}
-use Rattle.edit_base.specs.declared.verdicts.Refusal.TheVariants.{SpansFull}
-use Rattle.edit_model.specs.State.{State}
+use Rattle.edit_base.specs.declared.verdicts.Verdict.TheVariants.{Ignored, NoChange, Refused}
+use Rattle.edit_base.specs.declared.verdicts.Refusal.TheVariants.{Reserved, Slot, Order, Beyond, Below, ParagraphStart, ParagraphEnd, TooLong, SpansFull, Flags}
+use Rattle.edit_model.specs.State.{State, place, ArePlaces}
 use Rattle.edit_model.specs.Attached.{is_attached}
+use Rattle.edit_model.specs.Replaced.{spliced_length}
 use Rattle.edit_model.specs.declared.steps.Step.TheVariants as step
-use Rattle.edit_model.specs.Verdicts.{first_of, set_lines, judged, spans_after}
+use Rattle.edit_model.specs.Verdicts.{judged, is_kept_id, lacks_slot, goes_beyond, goes_below, breaks_paragraph, is_ignored, brings_reserved, brings_bad_flags, changes_nothing, length_after, spans_after}
+use Rattle.edit_model.specs.Flags.{is_bad}
+use Rattle.edit_model.specs.WellFormed.{is_kept_what}
+use Rattle.edit_model.proofs.Tables.{places_pass}
 
--- some line applies, and has this verdict
-abbrev Applies : Verdict → List (Bool × Verdict) → Type 0
-Applies verdict [] = ⊥
-Applies verdict (line ∷ lines) = ((line.0 ≡ true) × (line.1 ≡ verdict)) ⊎ Applies verdict lines
+-- a line of another verdict doesn't apply
+past : (test : Bool) (it rest : Verdict) → it ≢ Refused SpansFull → cond test it rest ≡ Refused SpansFull → (test ≡ false) × (rest ≡ Refused SpansFull)
+past true it rest other is = absurd (other is)
+past false it rest other is = (refl, is)
 
-applies_or_later : (test : Bool) (it verdict : Verdict) (lines : List (Bool × Verdict)) → (first_of lines ≡ verdict → Applies verdict lines) → cond test it (first_of lines) ≡ verdict
-    → ((test ≡ true) × (it ≡ verdict)) ⊎ Applies verdict lines
-applies_or_later true it verdict lines later is = inl (refl, is)
-applies_or_later false it verdict lines later is = inr (later is)
-
-applies : (verdict : Verdict) (lines : List (Bool × Verdict)) → (Done ≡ verdict → ⊥) → first_of lines ≡ verdict → Applies verdict lines
-applies verdict [] undone is = undone is
-applies verdict (line ∷ lines) undone is = applies_or_later line.0 line.1 verdict lines (applies verdict lines undone) is
+-- the last line applies
+last : (test : Bool) (rest : Verdict) → rest ≢ Refused SpansFull → cond test (Refused SpansFull) rest ≡ Refused SpansFull → test ≡ true
+last true rest other is = refl
+last false rest other is = absurd (other is)
 
 spans_counted : (attached : Bool) (count : ℕ) → count ≤ SPANS → nat_lt SPANS (cond attached count (count + 1)) ≡ true → cond attached count (count + 1) ≡ count + 1
 spans_counted true count few over = absurd (grind (arith, nat_tests))
@@ -35,34 +37,30 @@ pub full-adds_one : (state : State) (slots id : ℕ) (start end : ℤ) (flags : 
     → judged state slots (step.Set id start end flags what) ≡ Refused SpansFull → spans_after state id ≡ length state.spans + 1
 unfolding judged
 full-adds_one state slots id start end flags what few is =
-    elim (applies (Refused SpansFull) (set_lines state slots id start end flags what) (λ (h : Done ≡ Refused SpansFull). cc) is) [
-      | inl h ↦ absurd (let e = h.1 in cc)
-      | inr a ↦ elim a [
-        | inl h ↦ absurd (let e = h.1 in cc)
-        | inr b ↦ elim b [
-          | inl h ↦ absurd (let e = h.1 in cc)
-          | inr c ↦ elim c [
-            | inl h ↦ absurd (let e = h.1 in cc)
-            | inr d ↦ elim d [
-              | inl h ↦ absurd (let e = h.1 in cc)
-              | inr e ↦ elim e [
-                | inl h ↦ absurd (let e = h.1 in cc)
-                | inr f ↦ elim f [
-                  | inl h ↦ absurd (let e = h.1 in cc)
-                  | inr g ↦ elim g [
-                    | inl h ↦ absurd (let e = h.1 in cc)
-                    | inr i ↦ elim i [
-                      | inl h ↦ absurd (let e = h.1 in cc)
-                      | inr j ↦ elim j [
-                        | inl h ↦ spans_counted (is_attached id state.spans) (length state.spans) few h.0
-                        | inr none ↦ absurd none
-                      ]
-                    ]
-                  ]
-                ]
-              ]
-            ]
-          ]
-        ]
-      ]
-    ]
+    let a = past (is_kept_id id || is_kept_what what) (Refused Reserved) _ (λ h. cc) is in
+    let b = past (lacks_slot state slots id what) (Refused Slot) _ (λ h. cc) a.1 in
+    let c = past (is_bad flags) (Refused Flags) _ (λ h. cc) b.1 in
+    let d = past (int_lt end start) (Refused Order) _ (λ h. cc) c.1 in
+    let e = past (goes_beyond state start end) (Refused Beyond) _ (λ h. cc) d.1 in
+    let f = past (goes_below start end) (Refused Below) _ (λ h. cc) e.1 in
+    let g = past (breaks_paragraph state flags start) (Refused ParagraphStart) _ (λ h. cc) f.1 in
+    let h = past (breaks_paragraph state flags end) (Refused ParagraphEnd) _ (λ h. cc) g.1 in
+    let i = past (is_ignored flags start end) Ignored _ (λ h. cc) h.1 in
+    spans_counted (is_attached id state.spans) (length state.spans) few (last (nat_lt SPANS (spans_after state id)) _ (λ h. cc) i.1)
+
+-- a replacement that is refused since too many spans would stand has places in the text, in order, and no text that is too long
+pub record IsShort (state : State) (start end : ℤ) (incoming : Incoming) : Type 0 where
+  pub places : ArePlaces (length state.units) start end
+  pub short : spliced_length (length state.units) (place start) (place end) (length incoming.units) ≤ TEXT
+
+pub full-is_short : (state : State) (slots : ℕ) (start end : ℤ) (incoming : Incoming) → judged state slots (step.Replace start end incoming) ≡ Refused SpansFull → IsShort state start end incoming
+unfolding judged
+full-is_short state slots start end incoming is =
+    let a = past (brings_reserved incoming) (Refused Reserved) _ (λ h. cc) is in
+    let b = past (brings_bad_flags incoming) (Refused Flags) _ (λ h. cc) a.1 in
+    let c = past (int_lt end start) (Refused Order) _ (λ h. cc) b.1 in
+    let d = past (goes_beyond state start end) (Refused Beyond) _ (λ h. cc) c.1 in
+    let e = past (goes_below start end) (Refused Below) _ (λ h. cc) d.1 in
+    let f = past (changes_nothing state start end incoming) NoChange _ (λ h. cc) e.1 in
+    let g = past (nat_lt TEXT (length_after state start end incoming)) (Refused TooLong) _ (λ h. cc) f.1 in
+    record { places = places_pass (length state.units) start end c.0 d.0 e.0; short = ltb-false _ _ g.0 }

@@ -1,7 +1,8 @@
-pub mod FullTables
 pub mod OverLists
 pub mod Tables
+pub mod FullTables
 pub mod Splices
+pub mod InPlace
 pub mod Newlines
 pub mod Readings
 pub mod Paragraphs
@@ -9,6 +10,8 @@ pub mod Ends
 pub mod KeptBoundaries
 pub mod MovedSpans
 pub mod SpanLists
+pub mod Newcomers
 pub mod Replacements
 pub mod AttachedSpans
 pub mod EditedStates
+pub mod FilterLaws

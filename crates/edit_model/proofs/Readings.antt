@@ -1,16 +1,22 @@
 -- What is known of a command that was read.
-use Rattle.std.proofs.Common.{◌≡◌, ◌≤◌, ℕ, Bool, true, false, cond, leb, List, [], length, Option, Some, None, Result, Ok, Err, refl, arith}
+use Rattle.std.proofs.Common.{◌≡◌, ◌≤◌, ℕ, Bool, true, false, cond, leb, List, [], ◌∷◌, length, Option, Some, None, Result, Err, refl, arith}
 use Rattle.std.specs.Prelude.{IfSome, IfOk, nat_lt, unwrap_or, codes}
 use Rattle.std.specs.Option.{option_map, option_and_then}
 use Rattle.std.proofs.lemmas.Bool.Decides.{nat_tests}
-use Rattle.serde_json.specs.Data.{Data, Members}
-use Rattle.serde_json.specs.Find.{as_str, as_object}
-use Rattle.edit_base.specs.declared.bounds.TheConstants.Limits.{LINE_BYTES}
+use Rattle.std.specs.List.{AllByRecursion}
+use Rattle.std.proofs.lemmas.List.Elements.{All-from_recursion}
+use Rattle.serde_json.specs.Data.{Data, Items, no_items, item, Members}
+use Rattle.serde_json.specs.Find.{as_str, as_array, as_object}
+use Rattle.edit_base.specs.declared.bounds.TheConstants.Limits.{LINE_BYTES, LINE_SPANS}
+use Rattle.edit_base.specs.declared.kinds.What.{What}
+use Rattle.edit_base.specs.declared.rows.NewSpan.{NewSpan}
 use Rattle.edit_model.specs.declared.commands.Command.{Command}
 use Rattle.edit_model.specs.declared.faults.TraceFault.{TraceFault}
 use Rattle.edit_model.specs.declared.faults.TraceFault.TheVariants as fault
+use Rattle.edit_model.specs.Brought.{most_incoming, IsOrdered}
+use Rattle.edit_model.specs.Words.{as_span, words_of, span_by_words, ordered_span, whole_number, what_by_words, greatest_id}
 use Rattle.edit_model.specs.Operations.{Kind, replace, set_span, remove_span, spans_over, next_edge, Operation}
-use Rattle.edit_model.specs.Reading.{read_command, read_value, read_object, read_operation, operation_of, unless_fault, first_fault, fault_lines, command_in, json_of, utf16, as_incoming, most_incoming, text_of, text_in, value_in, IsFitting}
+use Rattle.edit_model.specs.Reading.{read_command, read_value, read_object, read_operation, operation_of, unless_fault, first_fault, fault_lines, command_in, json_of, utf16, as_incoming, spans_said, as_few, text_of, text_in, spans_of, spans_in, value_in, IsFitting}
 
 -- what holds of each value that a step gives holds of what the chain gives
 chained : {X Y : Type 0} (P : Y → Type 0) (f : X → Option Y) → ((x : X) → IfSome (f x) P) → (o : Option X) → IfSome (option_and_then f o) P
@@ -38,8 +44,66 @@ short_text value = chained IsShort as_incoming within (option_map utf16 (as_str 
 short_text_in : (name : List ℕ) (members : Members) → IsShort (text_in name members)
 short_text_in name members = or_else IsShort (option_and_then text_of (value_in name members)) [] (chained IsShort text_of short_text (value_in name members)) (omega arith)
 
+-- ---- spans
+
+ordered_if : (test : Bool) (span : NewSpan) → (test ≡ true → IsOrdered span) → IfSome (cond test (Some span) None) IsOrdered
+ordered_if true span is = is refl
+ordered_if false span is = tt
+
+ordered_one : (id start end flags : ℕ) (it : What) → IfSome (ordered_span id start end flags it) IsOrdered
+ordered_one id start end flags it =
+    ordered_if (leb start end) (record { id = id; start = start; end = end; flags = flags; what = it }) (λ is. grind (arith, nat_tests))
+
+ordered_words : (words : List (List ℕ)) → IfSome (span_by_words words) IsOrdered
+ordered_words [] = tt
+ordered_words (a ∷ []) = tt
+ordered_words (a ∷ b ∷ []) = tt
+ordered_words (a ∷ b ∷ c ∷ []) = tt
+ordered_words (a ∷ b ∷ c ∷ d ∷ words) =
+    chained IsOrdered _ (λ id. chained IsOrdered _ (λ start. chained IsOrdered _ (λ end. chained IsOrdered _ (λ flags. chained IsOrdered _ (λ it. ordered_one id start end flags it)
+    (what_by_words words)) (whole_number greatest_id d)) (whole_number greatest_id c)) (whole_number greatest_id b)) (whole_number greatest_id a)
+
+abbrev AreOrdered : List NewSpan → Type 0
+AreOrdered brought = AllByRecursion IsOrdered brought
+
+one_more : (first : Option NewSpan) (others : Option (List NewSpan)) → IfSome first IsOrdered → IfSome others AreOrdered
+    → IfSome (option_and_then (λ span. option_map (λ rest. span ∷ rest) others) first) AreOrdered
+one_more None others here there = tt
+one_more (Some span) None here there = tt
+one_more (Some span) (Some rest) here there = (here, there)
+
+ordered_said : (items : Items) → IfSome (spans_said items) AreOrdered
+ordered_said no_items = tt
+ordered_said (item value items) =
+    one_more (option_and_then as_span (as_str value)) (spans_said items) (chained IsOrdered as_span (λ text. ordered_words (words_of text)) (as_str value)) (ordered_said items)
+
+-- few spans, each with its ends in order
+abbrev AreFewOrdered : List NewSpan → Type 0
+AreFewOrdered brought = (length brought ≤ most_incoming) × AreOrdered brought
+
+few_if : (test : Bool) (brought : List NewSpan) → (test ≡ true → length brought ≤ most_incoming) → AreOrdered brought → IfSome (cond test (Some brought) None) AreFewOrdered
+few_if true brought few each = (few refl, each)
+few_if false brought few each = tt
+
+few_of : (found : Option (List NewSpan)) → IfSome found AreOrdered → IfSome (option_and_then as_few found) AreFewOrdered
+few_of None each = tt
+few_of (Some brought) each = few_if (leb (length brought) LINE_SPANS) brought (λ is. grind (arith, nat_tests)) each
+
+few_in : (name : List ℕ) (members : Members) → AreFewOrdered (spans_in name members)
+few_in name members =
+    or_else AreFewOrdered (option_and_then spans_of (value_in name members)) []
+    (chained AreFewOrdered spans_of (λ value. few_of (option_and_then spans_said (as_array value)) (chained AreOrdered spans_said ordered_said (as_array value))) (value_in name members))
+    (omega arith, tt)
+
 fits_command : (kind : Kind) (members : Members) → IsFitting (command_in kind members)
-fits_command replace members = (short_text_in (codes "text") members, refl, refl)
+fits_command replace members =
+    let few = few_in (codes "spans") members in
+    record {
+      units = short_text_in (codes "text") members;
+      spans = few.0;
+      ordered = All-from_recursion IsOrdered (spans_in (codes "spans") members) few.1;
+      plain = refl;
+    }
 fits_command set_span object = tt
 fits_command remove_span object = tt
 fits_command spans_over object = tt

@@ -39,10 +39,6 @@ module _ {X : Type 0} (P : X → Type 0) where
   all-push x (y ∷ ys) last each = (each.0, all-push x ys last each.1)
 
 module _ {X : Type 0} (P Q : X → Type 0) where
-  pub all-map : (f : X → X) → ((x : X) → P x → Q (f x)) → (xs : List X) → AllByRecursion P xs → AllByRecursion Q (map f xs)
-  all-map f step [] each = tt
-  all-map f step (x ∷ xs) each = (step x each.0, all-map f step xs each.1)
-
   pub all-both : (xs : List X) → AllByRecursion P xs → AllByRecursion Q xs → AllByRecursion (λ x. P x × Q x) xs
   all-both [] each other = tt
   all-both (x ∷ xs) each other = ((each.0, other.0), all-both xs each.1 other.1)
@@ -50,6 +46,14 @@ module _ {X : Type 0} (P Q : X → Type 0) where
   pub all-weaker : ((x : X) → P x → Q x) → (xs : List X) → AllByRecursion P xs → AllByRecursion Q xs
   all-weaker step [] each = tt
   all-weaker step (x ∷ xs) each = (step x each.0, all-weaker step xs each.1)
+
+pub all-map : {X Y : Type 0} (P : X → Type 0) (Q : Y → Type 0) (f : X → Y) → ((x : X) → P x → Q (f x)) → (xs : List X) → AllByRecursion P xs → AllByRecursion Q (map f xs)
+all-map P Q f step [] each = tt
+all-map P Q f step (x ∷ xs) each = (step x each.0, all-map P Q f step xs each.1)
+
+pub all-append : {X : Type 0} (P : X → Type 0) (xs ys : List X) → AllByRecursion P xs → AllByRecursion P ys → AllByRecursion P (xs ++ ys)
+all-append P [] ys each others = others
+all-append P (x ∷ xs) ys each others = (each.0, all-append P xs ys each.1 others)
 
 -- no element passes
 pub all_fail : {X : Type 0} (test : X → Bool) (xs : List X) → list_any test xs ≡ false → AllByRecursion (λ x. test x ≡ false) xs

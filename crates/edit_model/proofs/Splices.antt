@@ -21,3 +21,11 @@ module _ (units : List ℕ) (s e : ℕ) (brought : List ℕ) (ordered : s ≤ e)
       let place : e + (at - (s + length brought)) ≡ i = omega arith in
       get_or-append_right (take s units ++ brought) (drop e units) (s + length brought) at 0 front (omega arith)
       ∙ get_or-drop e units (at - (s + length brought)) 0 ∙ ap (λ j. get_or units j 0) place
+
+  -- between them stand those brought
+  pub unit_among : (i : ℕ) → i < length brought → get_or (spliced units s e brought) (s + i) 0 ≡ get_or brought i 0
+  unit_among i among =
+      let front : length (take s units) ≡ s = omega (arith, length-take s units) in
+      let place : s + i - s ≡ i = omega arith in
+      get_or_append_left (take s units ++ brought) (drop e units) 0 (s + i) (omega (arith, length-append (take s units) brought, front))
+      ∙ get_or-append_right (take s units) brought s (s + i) 0 front (omega arith) ∙ ap (λ j. get_or brought j 0) place

@@ -1,5 +1,6 @@
 -- The state after an edit, and what the edit changed.
 use Rattle.std.specs.Prelude.{ℕ, ◌&&◌, ◌==◌, Bool, not, List, [], ◌∷◌, map, filter, length, if◌then◌else◌}
+use Rattle.edit_base.specs.declared.rows.Incoming.{Incoming}
 use Rattle.edit_base.specs.declared.rows.SpanRow.{SpanRow}
 use Rattle.edit_base.specs.declared.verdicts.Verdict.{Verdict}
 use Rattle.edit_base.specs.declared.verdicts.Verdict.TheVariants.{Done, NoChange, Ignored, Absent, Refused}
@@ -8,7 +9,7 @@ use Rattle.edit_model.specs.declared.changes.MovedRow.{MovedRow}
 use Rattle.edit_model.specs.declared.steps.Step.{Step}
 use Rattle.edit_model.specs.declared.steps.Step.TheVariants as step
 use Rattle.edit_model.specs.State.{Span, State, place}
-use Rattle.edit_model.specs.Replaced.{replaced, moved_span, emptied_spans, kept_spans}
+use Rattle.edit_model.specs.Replaced.{replaced, moved_span, emptied_spans, kept_spans, came_spans}
 use Rattle.edit_model.specs.Attached.{is_attached, with_span, without_span, spans_of}
 use Rattle.edit_model.specs.Verdicts.{judged}
 
@@ -61,14 +62,14 @@ has_moved shift = not (shift.from.start == shift.to.start && shift.from.end == s
 abbrev pub shifts_by : (Span → Span) → List Span → List Shift
 shifts_by move spans = map (λ span. record { from = span; to = move span }) spans
 
-abbrev pub replaced_effect : State → ℕ → ℕ → ℕ → Effect
-replaced_effect state s e n = record {
+abbrev pub replaced_effect : State → ℕ → ℕ → Incoming → Effect
+replaced_effect state s e incoming = let n = length incoming.units in record {
   start = s;
   old_end = e;
   grown = n;
   removed = emptied_spans s e n state.spans;
   moved = filter has_moved (shifts_by (moved_span s e n state.units) (kept_spans s e n state.spans));
-  added = [];
+  added = came_spans state s e incoming;
 }
 
 -- an attached span is one moved row, even where nothing differs, and another an added one
@@ -80,7 +81,7 @@ set_effect state span =
 
 -- what an edit changes where its verdict is done
 unfoldable pub change_of : State → Step → Effect
-change_of state (step.Replace start end incoming) = replaced_effect state (place start) (place end) (length incoming.units)
+change_of state (step.Replace start end incoming) = replaced_effect state (place start) (place end) incoming
 change_of state (step.Set id start end flags what) =
     set_effect state (record { id = id; start = place start; end = place end; flags = flags; what = what })
 change_of state (step.Remove id) = spans_effect (spans_of id state.spans) [] []

@@ -1,26 +1,62 @@
--- Worked examples of reading and printing.
-use Rattle.std.specs.Prelude.{◌≡◌, ◌∷◌, [], pos, negsuc, codes, Ok, Err}
+-- Worked examples of reading, filtering, attaching and printing.
+use Rattle.std.specs.Prelude.{ℕ, ◌≡◌, ◌∷◌, [], pos, negsuc, codes, Ok, Err}
 use Rattle.edit_base.specs.declared.kinds.What.TheVariants.{Tag}
+use Rattle.edit_base.specs.declared.rows.NewSpan.{NewSpan}
 use Rattle.edit_base.specs.declared.verdicts.Verdict.TheVariants.{Refused}
 use Rattle.edit_base.specs.declared.verdicts.Refusal.TheVariants.{Below}
 use Rattle.edit_model.specs.declared.commands.Command.TheVariants as command
 use Rattle.edit_model.specs.declared.entries.LogEntry.TheVariants as entry
 use Rattle.edit_model.specs.declared.faults.TraceFault.TheVariants as fault
+use Rattle.edit_model.specs.declared.filters.Filter.TheVariants.{Length, AsciiUpper, Allow, NoNewline}
+use Rattle.edit_model.specs.State.{Span}
+use Rattle.edit_model.specs.Replaced.{came_spans}
+use Rattle.edit_model.specs.Filtered.{filtered}
 use Rattle.edit_model.specs.Printed.{entry_line, text_line}
-use Rattle.edit_model.specs.Reading.{plain_incoming, read_command}
+use Rattle.edit_model.specs.Reading.{incoming_of, read_command}
+
+-- a span with a tag, as it comes and as it is attached
+abbrev pub tagged : ℕ → ℕ → ℕ → ℕ → NewSpan
+tagged id start end flags = record { id = id; start = start; end = end; flags = flags; what = Tag 1 }
+
+abbrev pub attached : ℕ → ℕ → ℕ → ℕ → Span
+attached id start end flags = record { id = id; start = start; end = end; flags = flags; what = Tag 1 }
 
 -- blanks, the order of members and escapes don't matter; -0 is no place, and half of a surrogate pair is no text; a tag has
 -- a number, without a zero in front
 abbrev pub ReadsLines : Type 0
 ReadsLines =
     (read_command (codes "{ \"text\": \"\\u0068i\", \"end\": 5, \"start\": -2, \"op\": \"replace\" }")
-    ≡ Ok (command.Replace (negsuc 1) (pos 5) (plain_incoming (codes "hi"))))
+    ≡ Ok (command.Replace (negsuc 1) (pos 5) (incoming_of (codes "hi") [])))
     × (read_command (codes "{\"op\":\"replace\",\"start\":-0,\"end\":5,\"text\":\"hi\"}") ≡ Err fault.Number)
     × (read_command (codes "{\"op\":\"replace\",\"start\":0,\"end\":5,\"text\":\"\\ud83d\"}") ≡ Err fault.Json)
     × (read_command (codes "{\"op\":\"set_span\",\"id\":5,\"start\":0,\"end\":2,\"flags\":33,\"what\":\"tag 7\"}")
     ≡ Ok (command.SetSpan 5 (pos 0) (pos 2) 33 (Tag 7)))
     × (read_command (codes "{\"op\":\"set_span\",\"id\":5,\"start\":0,\"end\":2,\"flags\":33,\"what\":\"tag 07\"}") ≡ Err fault.Text)
     × (read_command (codes "{\"op\":\"set_span\",\"id\":5,\"start\":0,\"end\":2,\"flags\":33,\"what\":\"tag\"}") ≡ Err fault.Text)
+
+-- a list of spans, left out or of words that say one each, its start not behind its end
+abbrev pub ReadsSpans : Type 0
+ReadsSpans =
+    (read_command (codes "{\"op\":\"replace\",\"start\":0,\"end\":0,\"text\":\"hi\",\"spans\":[\"7 0 5 17 tag 1\"]}")
+    ≡ Ok (command.Replace (pos 0) (pos 0) (incoming_of (codes "hi") (tagged 7 0 5 17 ∷ []))))
+    × (read_command (codes "{\"op\":\"replace\",\"start\":0,\"end\":0,\"text\":\"hi\",\"spans\":[\"7 1 0 17 tag 1\"]}") ≡ Err fault.Text)
+
+-- a pair that doesn't fit whole is left out; each filter sees what the one before it left; places go to as many units as
+-- were kept before them, and those behind the text to its end
+abbrev pub FiltersTexts : Type 0
+FiltersTexts =
+    (filtered (Length 3 ∷ []) (incoming_of (55357 ∷ 56832 ∷ []) []) 2 2 2 ≡ incoming_of [] [])
+    × (filtered (AsciiUpper ∷ Allow (record { low = 65; high = 90 } ∷ []) ∷ []) (incoming_of (codes "a1b") []) 0 0 0 ≡ incoming_of (codes "AB") [])
+    × (filtered (NoNewline ∷ []) (incoming_of (codes "a\nb") (tagged 7 0 3 17 ∷ tagged 8 1 2 33 ∷ tagged 9 2 9 34 ∷ [])) 0 0 0
+    ≡ incoming_of (codes "ab") (tagged 7 0 2 17 ∷ tagged 8 1 1 33 ∷ tagged 9 1 2 34 ∷ []))
+
+-- at the place 2 of "x\ny": one that is clipped, one of an id that came before it, one that may not be empty, and two for
+-- paragraphs, the first of which ends at a boundary
+abbrev pub AttachesSpans : Type 0
+AttachesSpans =
+    came_spans (record { units = codes "x\ny"; spans = [] }) 2 2
+    (incoming_of (codes "a\n") (tagged 9 0 5 17 ∷ tagged 9 0 1 17 ∷ tagged 8 1 1 33 ∷ tagged 7 0 2 51 ∷ tagged 6 0 1 51 ∷ []))
+    ≡ attached 9 2 4 17 ∷ attached 7 2 4 51 ∷ []
 
 -- a refused edit; then a letter, the quote, the backslash, a line's end, half of a surrogate pair, the last plain unit
 -- and the one behind it

@@ -1,11 +1,15 @@
 -- What the definitions mean, as laws.
-use Rattle.std.specs.Prelude.{ℕ, ◌≡◌, ◌≢◌, ◌<◌, ◌≤◌, ◌⊎◌, ◌++◌, true, List, [], ◌∷◌, length, IfOk}
-use Rattle.std.specs.List.{flat_map, AllByRecursion}
+use Rattle.std.specs.Prelude.{ℕ, ◌≡◌, ◌≢◌, ◌<◌, ◌≤◌, ◌+◌, ◌&&◌, ◌⊎◌, ◌++◌, true, false, List, [], ◌∷◌, length, slice_index, IfOk}
+use Rattle.std.specs.List.{flat_map, All, AllByRecursion}
+use Rattle.edit_base.specs.declared.rows.Incoming.{Incoming}
 use Rattle.edit_base.specs.declared.verdicts.Verdict.TheVariants.{Done}
 use Rattle.edit_model.specs.declared.kinds.Kind.{Kind}
 use Rattle.edit_model.specs.declared.kinds.EndKind.{EndKind}
 use Rattle.edit_model.specs.declared.kinds.EndKind.TheVariants as end
+use Rattle.edit_model.specs.declared.filters.Filter.{Filter}
+use Rattle.edit_model.specs.declared.filters.Filter.TheVariants.{Length}
 use Rattle.edit_model.specs.declared.steps.Step.{Step}
+use Rattle.edit_model.specs.declared.steps.Step.TheVariants as step
 use Rattle.edit_model.specs.State.{State}
 use Rattle.edit_model.specs.Flags.{start_kind, end_kind, is_point_mark, is_paragraph}
 use Rattle.edit_model.specs.Boundaries.{is_boundary, next_boundary}
@@ -14,6 +18,8 @@ use Rattle.edit_model.specs.Replaced.{spliced, spliced_length}
 use Rattle.edit_model.specs.WellFormed.{IsWellFormed, IsSeated}
 use Rattle.edit_model.specs.Verdicts.{judged}
 use Rattle.edit_model.specs.Changed.{state_after}
+use Rattle.edit_model.specs.Brought.{IsOrdered, IsBrought}
+use Rattle.edit_model.specs.Filtered.{is_high, is_low, passed, kept_before, filtered}
 use Rattle.edit_model.specs.Lines.{trace_lines}
 use Rattle.edit_model.specs.Reading.{read_command, IsFitting}
 
@@ -23,13 +29,48 @@ use Rattle.edit_model.specs.Reading.{read_command, IsFitting}
 abbrev pub OthersChangeNothing : Type 0
 OthersChangeNothing = (state : State) (slots : ℕ) (asked : Step) → judged state slots asked ≢ Done → state_after state slots asked ≡ state
 
+-- the spans that an edit brings have their ends in order
+abbrev pub BringsOrdered : Step → Type 0
+BringsOrdered (step.Replace start end incoming) = All IsOrdered incoming.spans
+BringsOrdered (step.Set id start end flags what) = Unit {0}
+BringsOrdered (step.Remove id) = Unit {0}
+
 -- from a well formed state every edit leads to a well formed state
 abbrev pub KeepsWellFormed : Type 0
-KeepsWellFormed = (state : State) (slots : ℕ) (asked : Step) → IsWellFormed state → IsWellFormed (state_after state slots asked)
+KeepsWellFormed = (state : State) (slots : ℕ) (asked : Step) → BringsOrdered asked → IsWellFormed state → IsWellFormed (state_after state slots asked)
 
 -- and each watcher keeps a seat of its own
 abbrev pub KeepsSeats : Type 0
 KeepsSeats = (state : State) (slots : ℕ) (asked : Step) → IsWellFormed state → IsSeated slots state.spans → IsSeated slots (state_after state slots asked).spans
+
+-- ---- filters
+
+-- a filter takes places to places of what it lets through, in order
+abbrev pub TakesPlaces : Type 0
+TakesPlaces = (it : Filter) (others : ℕ) (units : List ℕ) (x y : ℕ) → x ≤ y
+    → (kept_before it others units x ≤ kept_before it others units y) × (kept_before it others units y ≤ length (passed it others units))
+
+-- a filter that keeps every unit leaves places alone
+abbrev pub LeavesPlaces : Type 0
+LeavesPlaces = (it : Filter) (others : ℕ) (units : List ℕ) (x : ℕ) → length (passed it others units) ≡ length units → x ≤ length units
+    → kept_before it others units x ≡ x
+
+-- a length filter that cuts a text never cuts between the two units of a pair
+abbrev pub CutsNoPair : Type 0
+CutsNoPair = (greatest others : ℕ) (units : List ℕ) (at : ℕ) → at + 1 ≡ length (passed (Length greatest) others units) → at + 1 < length units
+    → (is_high (slice_index units at) && is_low (slice_index units (at + 1))) ≡ false
+
+-- a text that a length filter leaves, with the others that stay, isn't longer than the filter says, unless the others are
+abbrev pub KeepsLength : Type 0
+KeepsLength = (greatest others : ℕ) (units : List ℕ) → others ≤ greatest → length (passed (Length greatest) others units) + others ≤ greatest
+
+-- filtered, what a replacement brings is still what it may bring, with every span in the text that comes
+abbrev pub FiltersBrought : Type 0
+FiltersBrought = (filters : List Filter) (incoming : Incoming) (length_before s e : ℕ) → IsBrought incoming
+    → IsBrought (filtered filters incoming length_before s e)
+    × (length (filtered filters incoming length_before s e).units ≤ length incoming.units)
+    × (length (filtered filters incoming length_before s e).spans ≡ length incoming.spans)
+    × All (λ span. span.end ≤ length (filtered filters incoming length_before s e).units) (filtered filters incoming length_before s e).spans
 
 -- ---- ends
 

@@ -2,12 +2,14 @@ pub mod State
 pub mod Flags
 pub mod Boundaries
 pub mod EndTable
-pub mod Replaced
 pub mod Attached
+pub mod Brought
+pub mod Replaced
 pub mod WellFormed
 pub mod Over
 pub mod Verdicts
 pub mod Changed
+pub mod Filtered
 pub mod Leads
 pub mod Faces
 pub mod Log

@@ -10,7 +10,7 @@ use Rattle.edit_model.specs.declared.entries.Logged.{Logged}
 use Rattle.edit_model.specs.declared.steps.Step.{Step}
 use Rattle.edit_model.specs.declared.steps.Step.TheVariants as step
 use Rattle.edit_model.specs.State.{State}
-use Rattle.edit_model.specs.Verdicts.{length_after, spans_after}
+use Rattle.edit_model.specs.Verdicts.{length_after, spans_then, spans_after}
 
 -- the length that would stand after an edit
 abbrev pub length_of : State → Step → ℕ
@@ -20,7 +20,7 @@ length_of state (step.Remove id) = length state.units
 
 -- the number of spans that would stand after an edit
 abbrev pub span_count_of : State → Step → ℕ
-span_count_of state (step.Replace start end incoming) = length state.spans
+span_count_of state (step.Replace start end incoming) = spans_then state start end incoming
 span_count_of state (step.Set id start end flags what) = spans_after state id
 span_count_of state (step.Remove id) = length state.spans
 
@@ -52,13 +52,11 @@ verdict_number state asked (Refused refusal) = refusal_number state asked refusa
 abbrev pub logged : State → Step → Verdict → Logged
 logged state asked verdict = record { verdict = verdict; number = verdict_number state asked verdict }
 
--- the entry of an edit with this verdict
-abbrev pub entry_of : State → ℕ → Step → Verdict → LogEntry
-entry_of state depth (step.Replace start end incoming) verdict =
-    entry.Replace depth start end (length incoming.units) (logged state (step.Replace start end incoming) verdict)
-entry_of state depth (step.Set id start end flags what) verdict =
-    entry.Set depth id start end flags (logged state (step.Set id start end flags what) verdict)
-entry_of state depth (step.Remove id) verdict = entry.Remove depth id (logged state (step.Remove id) verdict)
+-- the entry of an edit as it was asked for, with what became of it; units are counted as given
+abbrev pub entry_of : ℕ → Step → Logged → LogEntry
+entry_of depth (step.Replace start end incoming) found = entry.Replace depth start end (length incoming.units) found
+entry_of depth (step.Set id start end flags what) found = entry.Set depth id start end flags found
+entry_of depth (step.Remove id) found = entry.Remove depth id found
 
 -- a number for a refusal, and 0 for any other verdict
 abbrev pub on_refusal : Verdict → ℕ → ℕ

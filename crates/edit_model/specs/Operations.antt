@@ -1,12 +1,14 @@
 -- The operations of a trace: each one row, with its fields and their forms.
 use Rattle.std.specs.Prelude.{ℕ, List, [], ◌∷◌, Bool, true, false, codes}
 
--- what a field holds: a whole number of 32 bits with sign, one without sign, a string, or a string that says what a span carries
+-- what a field holds: a whole number of 32 bits with sign, one without sign, a string, a string that says what a span
+-- carries, or an array of strings that each say a span
 pub data Form : Type 0 where
   place : Form
   id : Form
   text : Form
   what : Form
+  spans : Form
 
 -- the field holds a number
 abbrev pub is_number : Form → Bool
@@ -14,6 +16,15 @@ is_number place = true
 is_number id = true
 is_number text = false
 is_number what = false
+is_number spans = false
+
+-- the field has to stand
+abbrev pub is_required : Form → Bool
+is_required place = true
+is_required id = true
+is_required text = true
+is_required what = true
+is_required spans = false
 
 pub record Field : Type 0 where
   pub name : List ℕ
@@ -40,7 +51,7 @@ operation kind name fields = record { kind = kind; name = name; fields = fields 
 
 abbrev pub operations : List Operation
 operations =
-    operation replace (codes "replace") (field (codes "start") place ∷ field (codes "end") place ∷ field (codes "text") text ∷ [])
+    operation replace (codes "replace") (field (codes "start") place ∷ field (codes "end") place ∷ field (codes "text") text ∷ field (codes "spans") spans ∷ [])
     ∷ operation set_span (codes "set_span") (field (codes "id") id ∷ field (codes "start") place ∷ field (codes "end") place ∷ field (codes "flags") id ∷ field (codes "what") what ∷ [])
     ∷ operation remove_span (codes "remove_span") (field (codes "id") id ∷ [])
     ∷ operation spans_over (codes "spans_over") (field (codes "start") place ∷ field (codes "end") place ∷ [])

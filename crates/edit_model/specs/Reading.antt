@@ -1,22 +1,24 @@
 -- What a line of a trace asks for, or its first fault, by the value that `serde_json` promises for its bytes.
-use Rattle.std.specs.Prelude.{ℕ, ◌≡◌, ◌≤◌, ◌&&◌, ◌||◌, ℤ, pos, negsuc, List, [], ◌∷◌, map, length, Bool, true, false, not, nat_lt, nat_le, int_le, codes, if◌then◌else◌, Option, Some, None, is_some, is_none, unwrap_or, Result, Ok, Err}
+use Rattle.std.specs.Prelude.{ℕ, ◌&&◌, ◌||◌, ℤ, pos, negsuc, List, [], ◌∷◌, length, Bool, false, not, nat_lt, nat_le, int_le, codes, if◌then◌else◌, Option, Some, None, is_some, is_none, unwrap_or, Result, Ok, Err}
 use Rattle.std.specs.Option.{option_map, option_and_then}
 use Rattle.std.specs.List.{flat_map, list_any, find}
 use Rattle.std.specs.Str.{is_utf8, chars, bytes_eq}
 use Rattle.std.specs.Char.Escape.{encode_utf16}
-use Rattle.serde_json.specs.Data.{Data, Members, no_members, member}
+use Rattle.serde_json.specs.Data.{Data, Items, no_items, item, Members, no_members, member}
 use Rattle.serde_json.specs.Read.{read}
-use Rattle.serde_json.specs.Find.{get_member, as_object, as_number, as_i64, as_u64, as_str}
-use Rattle.edit_base.specs.declared.bounds.TheConstants.Limits.{LINE_BYTES}
+use Rattle.serde_json.specs.Find.{get_member, as_object, as_array, as_number, as_i64, as_u64, as_str}
+use Rattle.edit_base.specs.declared.bounds.TheConstants.Limits.{LINE_BYTES, LINE_SPANS}
 use Rattle.edit_base.specs.declared.kinds.What.{What}
 use Rattle.edit_base.specs.declared.kinds.What.TheVariants.{Tag}
 use Rattle.edit_base.specs.declared.rows.Incoming.{Incoming}
+use Rattle.edit_base.specs.declared.rows.NewSpan.{NewSpan}
+use Rattle.edit_model.specs.Brought.{most_incoming, IsBrought}
 use Rattle.edit_model.specs.declared.commands.Command.{Command}
 use Rattle.edit_model.specs.declared.commands.Command.TheVariants as command
 use Rattle.edit_model.specs.declared.faults.TraceFault.{TraceFault}
 use Rattle.edit_model.specs.declared.faults.TraceFault.TheVariants as fault
-use Rattle.edit_model.specs.Operations.{Form, place, id, text, what, is_number, Field, Kind, replace, set_span, remove_span, spans_over, next_edge, Operation, operations}
-use Rattle.edit_model.specs.Words.{greatest_id, as_what}
+use Rattle.edit_model.specs.Operations.{Form, place, id, text, what, spans, is_number, is_required, Field, Kind, replace, set_span, remove_span, spans_over, next_edge, Operation, operations}
+use Rattle.edit_model.specs.Words.{greatest_id, as_what, as_span}
 
 -- the value of a line's bytes, where `serde_json` reads one
 abbrev pub json_of : List ℕ → Option Data
@@ -54,10 +56,7 @@ id_of value = option_and_then as_id (option_and_then as_u64 (as_number value))
 abbrev pub utf16 : List ℕ → List ℕ
 utf16 string = flat_map encode_utf16 (chars string)
 
--- as many units as a replacement may bring; a line has far fewer
-abbrev pub most_incoming : ℕ
-most_incoming = 1073741824
-
+-- no more units than a replacement may bring; a line has far fewer
 abbrev pub as_incoming : List ℕ → Option (List ℕ)
 as_incoming units = if nat_le (length units) most_incoming then Some units else None
 
@@ -69,12 +68,26 @@ text_of value = option_and_then as_incoming (option_map utf16 (as_str value))
 abbrev pub what_of : Data → Option What
 what_of value = option_and_then as_what (as_str value)
 
+-- the spans that the values of an array say, where each says one
+abbrev pub spans_said : Items → Option (List NewSpan)
+spans_said no_items = Some []
+spans_said (item value items) =
+    option_and_then (λ first. option_map (λ others. first ∷ others) (spans_said items)) (option_and_then as_span (as_str value))
+
+abbrev pub as_few : List NewSpan → Option (List NewSpan)
+as_few brought = if nat_le (length brought) LINE_SPANS then Some brought else None
+
+-- an array of as many spans as a line may have, in words
+abbrev pub spans_of : Data → Option (List NewSpan)
+spans_of value = option_and_then as_few (option_and_then spans_said (as_array value))
+
 -- a value has this form
 abbrev pub has_form : Form → Data → Bool
 has_form place value = is_some (place_of value)
 has_form id value = is_some (id_of value)
 has_form text value = is_some (text_of value)
 has_form what value = is_some (what_of value)
+has_form spans value = is_some (spans_of value)
 
 -- ---- the first fault
 
@@ -90,11 +103,13 @@ operation_of members = option_and_then (λ name. find (λ it. bytes_eq it.name n
 abbrev pub is_known : Operation → List ℕ → Bool
 is_known it key = bytes_eq (codes "op") key || list_any (λ field. bytes_eq field.name key) it.fields
 
-abbrev pub is_absent : Members → Field → Bool
-is_absent members field = is_none (value_in field.name members)
+-- a field that has to stand, and doesn't
+abbrev pub is_missing : Members → Field → Bool
+is_missing members field = is_required field.form && is_none (value_in field.name members)
 
+-- no value, where none has to stand, or one of this form
 abbrev pub fits : Form → Option Data → Bool
-fits form None = false
+fits form None = not (is_required form)
 fits form (Some value) = has_form form value
 
 -- a number field without a number of its form, and another field without a value of its form
@@ -111,7 +126,7 @@ first_fault (line ∷ lines) = if line.0 then Some line.1 else first_fault lines
 abbrev pub fault_lines : Operation → Members → List (Bool × TraceFault)
 fault_lines it members =
     (list_any (λ key. not (is_known it key)) (keys_of members), fault.Field)
-    ∷ (list_any (is_absent members) it.fields, fault.Missing)
+    ∷ (list_any (is_missing members) it.fields, fault.Missing)
     ∷ (list_any (lacks_number members) it.fields, fault.Number)
     ∷ (list_any (lacks_text members) it.fields, fault.Text)
     ∷ []
@@ -130,13 +145,16 @@ text_in name members = unwrap_or (option_and_then text_of (value_in name members
 abbrev pub what_in : List ℕ → Members → What
 what_in name members = unwrap_or (option_and_then what_of (value_in name members)) (Tag 0)
 
--- units alone
-abbrev pub plain_incoming : List ℕ → Incoming
-plain_incoming units = record { units = units; spans = []; composing = false }
+abbrev pub spans_in : List ℕ → Members → List NewSpan
+spans_in name members = unwrap_or (option_and_then spans_of (value_in name members)) []
+
+-- units, and spans over them
+abbrev pub incoming_of : List ℕ → List NewSpan → Incoming
+incoming_of units brought = record { units = units; spans = brought; composing = false }
 
 abbrev pub command_in : Kind → Members → Command
 command_in replace members =
-    command.Replace (place_in (codes "start") members) (place_in (codes "end") members) (plain_incoming (text_in (codes "text") members))
+    command.Replace (place_in (codes "start") members) (place_in (codes "end") members) (incoming_of (text_in (codes "text") members) (spans_in (codes "spans") members))
 command_in set_span members =
     command.SetSpan (id_in (codes "id") members) (place_in (codes "start") members) (place_in (codes "end") members) (id_in (codes "flags") members) (what_in (codes "what") members)
 command_in remove_span members = command.RemoveSpan (id_in (codes "id") members)
@@ -165,10 +183,9 @@ read_value (Some value) = read_object (as_object value)
 unfoldable pub read_command : List ℕ → Result Command TraceFault
 read_command bytes = if nat_lt LINE_BYTES (length bytes) then Err fault.LineTooLong else read_value (json_of bytes)
 
--- a command brings at most so many units, and as yet neither spans nor the composing region
+-- a command brings what a replacement may
 abbrev pub IsFitting : Command → Type 0
-IsFitting (command.Replace start end incoming) =
-    (length incoming.units ≤ most_incoming) × (incoming.spans ≡ []) × (incoming.composing ≡ false)
+IsFitting (command.Replace start end incoming) = IsBrought incoming
 IsFitting (command.SetSpan span start end flags it) = Unit {0}
 IsFitting (command.RemoveSpan span) = Unit {0}
 IsFitting (command.SpansOver start end) = Unit {0}

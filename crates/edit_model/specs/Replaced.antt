@@ -4,6 +4,7 @@ use Rattle.edit_base.specs.declared.rows.Incoming.{Incoming}
 use Rattle.edit_model.specs.State.{Span, State}
 use Rattle.edit_model.specs.Flags.{kind_of, start_kind, end_kind, is_point_mark}
 use Rattle.edit_model.specs.EndTable.{end_of}
+use Rattle.edit_model.specs.Brought.{brought_spans}
 
 -- the units before s, then these, then the units from e on
 abbrev pub spliced : List ℕ → ℕ → ℕ → List ℕ → List ℕ
@@ -36,9 +37,18 @@ emptied_spans s e n spans = filter (is_emptied s e n) spans
 abbrev pub kept_spans : ℕ → ℕ → ℕ → List Span → List Span
 kept_spans s e n spans = filter (λ span. not (is_emptied s e n span)) spans
 
--- emptied spans go, every other end moves by the table, and the order of attachment stays
+-- the kept spans, each with its ends where the table takes them
+abbrev pub stayed_spans : State → ℕ → ℕ → ℕ → List Span
+stayed_spans state s e n = map (moved_span s e n state.units) (kept_spans s e n state.spans)
+
+-- the incoming spans that are attached
+abbrev pub came_spans : State → ℕ → ℕ → Incoming → List Span
+came_spans state s e incoming =
+    brought_spans (spliced state.units s e incoming.units) (stayed_spans state s e (length incoming.units)) s incoming
+
+-- emptied spans go, every other end moves by the table, the order of attachment stays, and the incoming spans come last
 abbrev pub replaced : State → ℕ → ℕ → Incoming → State
-replaced state s e incoming = let n = length incoming.units in record {
+replaced state s e incoming = record {
   units = spliced state.units s e incoming.units;
-  spans = map (moved_span s e n state.units) (kept_spans s e n state.spans);
+  spans = stayed_spans state s e (length incoming.units) ++ came_spans state s e incoming;
 }

@@ -1,5 +1,5 @@
 -- A text with its spans.
-use Rattle.std.specs.Prelude.{ℕ, ℤ, pos, negsuc, List, [], length}
+use Rattle.std.specs.Prelude.{ℕ, ℤ, pos, negsuc, ◌≡◌, ◌≤◌, List, [], length}
 use Rattle.edit_base.specs.declared.kinds.What.{What}
 
 -- an attached span; places count units
@@ -27,3 +27,10 @@ text_end state = pos (length state.units)
 abbrev pub place : ℤ → ℕ
 place (pos n) = n
 place (negsuc n) = 0
+
+-- places that lie in a text of this length, in order
+pub record ArePlaces (last : ℕ) (start end : ℤ) : Type 0 where
+  pub starts : start ≡ pos (place start)
+  pub ends : end ≡ pos (place end)
+  pub ordered : place start ≤ place end
+  pub within : place end ≤ last

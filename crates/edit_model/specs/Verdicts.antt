@@ -5,6 +5,7 @@ use Rattle.std.specs.List.{list_any}
 use Rattle.edit_base.specs.declared.kinds.What.{What}
 use Rattle.edit_base.specs.declared.kinds.What.TheVariants.{Tag, Face, Margin, Float, Watch, SelStart, SelEnd, Composing}
 use Rattle.edit_base.specs.declared.rows.Incoming.{Incoming}
+use Rattle.edit_base.specs.declared.rows.NewSpan.{NewSpan}
 use Rattle.edit_base.specs.declared.verdicts.Verdict.{Verdict}
 use Rattle.edit_base.specs.declared.verdicts.Verdict.TheVariants.{Done, NoChange, Ignored, Absent, Refused}
 use Rattle.edit_base.specs.declared.verdicts.Refusal.TheVariants.{Reserved, Slot, Order, Beyond, Below, ParagraphStart, ParagraphEnd, TooLong, SpansFull, Flags}
@@ -12,9 +13,10 @@ use Rattle.edit_base.specs.declared.bounds.TheConstants.Limits.{TEXT, SPANS}
 use Rattle.edit_model.specs.State.{State, text_end, place}
 use Rattle.edit_model.specs.Flags.{is_bad, kind_of, is_point_mark, is_paragraph}
 use Rattle.edit_model.specs.Boundaries.{is_boundary}
-use Rattle.edit_model.specs.Replaced.{spliced_length}
+use Rattle.edit_model.specs.Replaced.{spliced_length, came_spans, replaced}
 use Rattle.edit_model.specs.Attached.{has_id, is_attached}
 use Rattle.edit_model.specs.WellFormed.{is_kept_what}
+use Rattle.edit_model.specs.Over.{is_watch}
 use Rattle.edit_model.specs.declared.steps.Step.{Step}
 use Rattle.edit_model.specs.declared.steps.Step.TheVariants as step
 
@@ -64,6 +66,21 @@ goes_below start end = int_lt start (pos 0) || int_lt end (pos 0)
 abbrev pub breaks_paragraph : State → ℕ → ℤ → Bool
 breaks_paragraph state flags at = is_paragraph (kind_of flags) && not (is_boundary state.units (place at))
 
+-- an incoming span that a replacement may not bring: its id or its what is kept, or it would watch
+abbrev pub is_reserved : NewSpan → Bool
+is_reserved span = is_kept_id span.id || is_kept_what span.what || is_watch span.what
+
+abbrev pub brings_reserved : Incoming → Bool
+brings_reserved incoming = list_any is_reserved incoming.spans
+
+abbrev pub brings_bad_flags : Incoming → Bool
+brings_bad_flags incoming = list_any (λ span. is_bad span.flags) incoming.spans
+
+-- nothing goes, no unit comes, and every incoming span is skipped
+abbrev pub changes_nothing : State → ℤ → ℤ → Incoming → Bool
+changes_nothing state start end incoming =
+    int_eq start end && length incoming.units == 0 && length (came_spans state (place start) (place end) incoming) == 0
+
 -- a span that may not be empty, and would be
 abbrev pub is_ignored : ℕ → ℤ → ℤ → Bool
 is_ignored flags start end = is_point_mark (kind_of flags) && int_eq start end
@@ -71,6 +88,10 @@ is_ignored flags start end = is_point_mark (kind_of flags) && int_eq start end
 -- the length that would stand after a replacement
 abbrev pub length_after : State → ℤ → ℤ → Incoming → ℕ
 length_after state start end incoming = spliced_length (length state.units) (place start) (place end) (length incoming.units)
+
+-- the number of spans that would stand after a replacement
+abbrev pub spans_then : State → ℤ → ℤ → Incoming → ℕ
+spans_then state start end incoming = length (replaced state (place start) (place end) incoming).spans
 
 -- the number of spans that would stand after a set
 abbrev pub spans_after : State → ℕ → ℕ
@@ -80,11 +101,14 @@ spans_after state id = if is_attached id state.spans then length state.spans els
 
 abbrev pub replace_lines : State → ℤ → ℤ → Incoming → List (Bool × Verdict)
 replace_lines state start end incoming =
-    (int_lt end start, Refused Order)
+    (brings_reserved incoming, Refused Reserved)
+    ∷ (brings_bad_flags incoming, Refused Flags)
+    ∷ (int_lt end start, Refused Order)
     ∷ (goes_beyond state start end, Refused Beyond)
     ∷ (goes_below start end, Refused Below)
-    ∷ (int_eq start end && (length incoming.units == 0), NoChange)
+    ∷ (changes_nothing state start end incoming, NoChange)
     ∷ (nat_lt TEXT (length_after state start end incoming), Refused TooLong)
+    ∷ (nat_lt SPANS (spans_then state start end incoming), Refused SpansFull)
     ∷ []
 
 abbrev pub set_lines : State → ℕ → ℕ → ℤ → ℤ → ℕ → What → List (Bool × Verdict)

@@ -3,8 +3,10 @@ use Rattle.std.specs.Prelude.{ℕ, ◌+◌, ◌-◌, ◌*◌, ◌&&◌, ◌==◌
 use Rattle.std.specs.Option.{option_map, option_and_then}
 use Rattle.std.specs.List.{fold}
 use Rattle.std.specs.Str.{bytes_eq}
+use Rattle.edit_base.specs.declared.bounds.TheConstants.Limits.{METRIC}
 use Rattle.edit_base.specs.declared.kinds.What.{What}
 use Rattle.edit_base.specs.declared.kinds.What.TheVariants.{Tag, Face, Margin, Float, Watch}
+use Rattle.edit_base.specs.declared.rows.NewSpan.{NewSpan}
 
 -- a byte in front of the first word
 abbrev pub into_word : ℕ → List (List ℕ) → List (List ℕ)
@@ -24,22 +26,19 @@ abbrev pub whole_number : ℕ → List ℕ → Option ℕ
 whole_number greatest text =
     if bytes_eq (decimal (digits_value text)) text && nat_le (digits_value text) greatest then Some (digits_value text) else None
 
--- the greatest number of a tag, of a face and a slot, of margins and lines
+-- the greatest number of a tag, an id, a place or a flags word, and of a face and a slot
 abbrev pub greatest_id : ℕ
 greatest_id = 4294967295
 
 abbrev pub greatest_byte : ℕ
 greatest_byte = 255
 
-abbrev pub greatest_metric : ℕ
-greatest_metric = 65535
-
 abbrev pub with_one : (ℕ → What) → ℕ → List ℕ → Option What
 with_one make greatest number = option_map make (whole_number greatest number)
 
 abbrev pub with_two : (ℕ → ℕ → What) → List ℕ → List ℕ → Option What
 with_two make first second =
-    option_and_then (λ a. option_map (λ b. make a b) (whole_number greatest_metric second)) (whole_number greatest_metric first)
+    option_and_then (λ a. option_map (λ b. make a b) (whole_number METRIC second)) (whole_number METRIC first)
 
 -- a name and a number, or a name and two numbers
 abbrev pub what_by_words : List (List ℕ) → Option What
@@ -57,3 +56,19 @@ what_by_words (name ∷ first ∷ second ∷ third ∷ others) = None
 -- what a span carries: `tag N`, `face N`, `margin N N`, `float N N` or `watch N`
 abbrev pub as_what : List ℕ → Option What
 as_what text = what_by_words (words_of text)
+
+-- a span whose start isn't behind its end
+abbrev pub ordered_span : ℕ → ℕ → ℕ → ℕ → What → Option NewSpan
+ordered_span id start end flags what =
+    if nat_le start end then Some (record { id = id; start = start; end = end; flags = flags; what = what }) else None
+
+-- four numbers, and what the span carries
+abbrev pub span_by_words : List (List ℕ) → Option NewSpan
+span_by_words (id ∷ start ∷ end ∷ flags ∷ what) =
+    option_and_then (λ a. option_and_then (λ b. option_and_then (λ c. option_and_then (λ d. option_and_then (λ it. ordered_span a b c d it)
+    (what_by_words what)) (whole_number greatest_id flags)) (whole_number greatest_id end)) (whole_number greatest_id start)) (whole_number greatest_id id)
+span_by_words _ = None
+
+-- a span that a replacement brings: `ID START END FLAGS WHAT`
+abbrev pub as_span : List ℕ → Option NewSpan
+as_span text = span_by_words (words_of text)

@@ -1,10 +1,21 @@
 //! Worked examples of the definitions, each the contract of a function that does nothing.
 
-ghost use Rattle.edit_model.specs.Examples.{ReadsLines, PrintsLines};
+ghost use Rattle.edit_model.specs.Examples.{ReadsLines, ReadsSpans, FiltersTexts, AttachesSpans, PrintsLines};
 
 /// Some lines of a trace, and what they ask for.
 pub fn reads_lines()
-    ensures { ReadsLines }
+    ensures lines { ReadsLines }
+    ensures spans { ReadsSpans }
+{}
+
+/// Some texts and spans as filters leave them.
+pub fn filters_texts()
+    ensures { FiltersTexts }
+{}
+
+/// Some spans that come with a text.
+pub fn attaches_spans()
+    ensures { AttachesSpans }
 {}
 
 /// Some lines as they are printed.

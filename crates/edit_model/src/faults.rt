@@ -20,13 +20,13 @@ pub enum TraceFault {
     /// A member is neither `op` nor a field of the operation.
     #[error("field")]
     Field,
-    /// A field is absent.
+    /// A field that has to stand is absent.
     #[error("missing")]
     Missing,
     /// A number field holds no whole number of its form.
     #[error("number")]
     Number,
-    /// A text or a what holds another value, or a string without a reading.
+    /// A text, a what or a list of spans holds another value, or one without a reading.
     #[error("text")]
     Text,
     /// There was no memory to read the line.

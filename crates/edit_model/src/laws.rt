@@ -1,13 +1,14 @@
 //! What the definitions mean: each law is the contract of a function that does nothing.
 
-ghost use Rattle.edit_model.specs.Laws.{OthersChangeNothing, KeepsWellFormed, KeepsSeats, StaysInText, KeepsOrder, KeepsBoundaries, PullsToLeast, CutsAtNewlines, ReadsFittingCommands};
+ghost use Rattle.edit_model.specs.Laws.{OthersChangeNothing, KeepsWellFormed, KeepsSeats, StaysInText, KeepsOrder, KeepsBoundaries, PullsToLeast, TakesPlaces, LeavesPlaces, CutsNoPair, KeepsLength, FiltersBrought, CutsAtNewlines, ReadsFittingCommands};
 
 /// Only an edit whose verdict is done changes the state.
 pub fn edits_that_are_not_done_change_nothing()
     ensures { OthersChangeNothing }
 {}
 
-/// Every edit leads from a well formed state to a well formed state, for any number of slots.
+/// Every edit leads from a well formed state to a well formed state, for any number of slots, where the spans that it
+/// brings have their ends in order.
 pub fn edits_keep_states_well_formed()
     ensures well_formed { KeepsWellFormed }
     ensures seats { KeepsSeats }
@@ -19,6 +20,16 @@ pub fn ends_stay_where_they_may()
     ensures in_order { KeepsOrder }
     ensures at_boundaries { KeepsBoundaries }
     ensures least { PullsToLeast }
+{}
+
+/// A filter takes places in order to places of what it keeps, and where it keeps all, it leaves them alone. A length
+/// filter cuts no pair and keeps to its length. What is filtered is still what a replacement may bring.
+pub fn filters_keep_places()
+    ensures in_order { TakesPlaces }
+    ensures alone { LeavesPlaces }
+    ensures whole_pairs { CutsNoPair }
+    ensures short { KeepsLength }
+    ensures brought { FiltersBrought }
 {}
 
 /// The lines of a trace hold no `\n`, and joined by `\n` they are the trace.

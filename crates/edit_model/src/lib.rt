@@ -6,6 +6,7 @@ mod commands;
 mod entries;
 mod examples;
 mod faults;
+mod filters;
 mod kinds;
 mod laws;
 mod replies;
@@ -15,12 +16,14 @@ mod steps;
 pub use changes::{Change, MovedRow};
 pub use commands::Command;
 pub use entries::{LogEntry, Logged};
-pub use examples::{prints_lines, reads_lines};
+pub use examples::{attaches_spans, filters_texts, prints_lines, reads_lines};
 pub use faults::{SettingsFault, TraceFault};
+pub use filters::{Filter, UnitRange};
 pub use kinds::{EndKind, Kind};
 pub use laws::{
     commands_bring_what_fits, edits_keep_states_well_formed,
-    edits_that_are_not_done_change_nothing, ends_stay_where_they_may, lines_are_cut_at_newlines,
+    edits_that_are_not_done_change_nothing, ends_stay_where_they_may, filters_keep_places,
+    lines_are_cut_at_newlines,
 };
 pub use replies::Reply;
 pub use settings::Settings;

@@ -1,10 +1,15 @@
 //! What a run is set to.
 
+use crate::filters::Filter;
+use edit_base::Items;
+
 /// The settings of a run.
-#[derive(Clone, Copy, Debug, PartialEq, Eq)]
+#[derive(Debug, Drop)]
 pub struct Settings {
     /// How deep edits may nest, 0 to 8.
     pub depth: u32,
     /// The width of the layout, 1 to 16,777,216.
     pub width: u32,
+    /// The filters of incoming text, in the order in which it goes through them; at most 8.
+    pub filters: Items<Filter>,
 }

@@ -1,44 +1,13 @@
 -- Lists that are changed element by element, in place.
-use Rattle.std.proofs.Common.{◌≡◌, ℕ, ◌+◌, ◌<◌, ◌≤◌, Bool, true, false, cond, List, [], ◌∷◌, ◌++◌, map, length, take, drop, get_or, refl, sym, ap, ◌∙◌, arith, add-zero}
+use Rattle.std.proofs.Common.{◌≡◌, ℕ, ◌+◌, ◌<◌, Bool, true, false, cond, List, [], ◌∷◌, ◌++◌, map, length, take, get_or, refl, sym, ap, ◌∙◌, arith}
 use Rattle.std.proofs.Math.ListN.{set}
-use Rattle.std.proofs.lemmas.List.{length-set, take_more_set, take_all, drop-set-lt, drop-drop, get_or-drop, map_more}
 use Rattle.std.specs.List.{filter}
 use Rattle.std.proofs.lemmas.List.{append-nil, map-append}
 use Rattle.std.proofs.lemmas.List.Elements.{filter_more}
 use Rattle.edit_base.specs.declared.rows.SpanRow.{SpanRow}
 use Rattle.edit_model.specs.declared.changes.MovedRow.{MovedRow}
+use Rattle.edit_model.proofs.InPlace.{MapsInPlace, maps_read, maps_more}
 use Rattle.replace_engine.specs.Rows.{move_by}
-
--- ys began as xs: its first i elements are those of xs by f, and the others are as they were
-pub record MapsInPlace {X : Type 0} (f : X → X) (xs ys : List X) (i : ℕ) : Type 0 where
-  pub front : take i ys ≡ map f (take i xs)
-  pub rest : drop i ys ≡ drop i xs
-  pub long : length ys ≡ length xs
-
-module _ {X : Type 0} {f : X → X} {xs ys : List X} {i : ℕ} (so_far : MapsInPlace f xs ys i) where
-  -- the next element is still the old one
-  pub maps_read : (d : X) → get_or ys i d ≡ get_or xs i d
-  maps_read d = sym (at ys) ∙ ap (λ zs. get_or zs 0 d) so_far.rest ∙ at xs
-    where
-      at : (zs : List X) → get_or (drop i zs) 0 d ≡ get_or zs i d
-      at zs = rw (get_or-drop i zs 0 d, add-zero) refl
-
-  rest_more : drop (i + 1) ys ≡ drop (i + 1) xs
-  rest_more = sym (drop-drop 1 i ys) ∙ ap (drop 1) so_far.rest ∙ drop-drop 1 i xs
-
-  pub maps_more : (y d : X) → i < length xs → y ≡ f (get_or xs i d) → MapsInPlace f xs (set ys i y) (i + 1)
-  maps_more y d below is =
-      let within : i < length ys = omega (arith, so_far.long) in
-      record {
-        front = rw (take_more_set ys i y within, map_more f xs i d below, so_far.front, is) refl;
-        rest = rw (drop-set-lt (i + 1) ys i y (omega arith)) rest_more;
-        long = length-set ys i y ∙ so_far.long;
-      }
-
-  pub maps_all : length xs ≤ i → ys ≡ map f xs
-  maps_all past =
-      let within : length ys ≤ i = omega (arith, so_far.long) in
-      sym (take_all i ys within) ∙ so_far.front ∙ ap (map f) (take_all i xs past)
 
 -- the rows ys began as xs and are changed by f so far, and ms tells of those that pass
 pub record MovesInPlace (f : SpanRow → SpanRow) (told : SpanRow → Bool) (xs ys : List SpanRow) (ms : List MovedRow) (i : ℕ) : Type 0 where
@@ -64,7 +33,7 @@ module _ {f : SpanRow → SpanRow} {told : SpanRow → Bool} {xs ys : List SpanR
 
   module _ (y : SpanRow) (zs : List SpanRow) (moves : y ≡ f (get_or ys i d)) (written : zs ≡ set ys i y) where
     changed : MapsInPlace f xs zs (i + 1)
-    changed = rw written (maps_more so_far.rows y d within (moves ∙ ap f (sym old_row)))
+    changed = rw written (maps_more so_far.rows y d below moves)
 
     -- the row changed, and was told of
     pub moves_told : (ns : List MovedRow) → told (get_or ys i d) ≡ true → ns ≡ ms ++ record { from = get_or ys i d; to = y } ∷ [] → MovesInPlace f told xs zs ns (i + 1)

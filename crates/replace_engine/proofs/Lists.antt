@@ -12,6 +12,24 @@ pub list_any-map : {X Y : Type 0} (f : X → Y) (test : Y → Bool) (xs : List X
 list_any-map f test [] = refl
 list_any-map f test (x ∷ xs) = ap (λ rest. test (f x) || rest) (list_any-map f test xs)
 
+module _ {X : Type 0} (test keep : X → Bool) where
+  any_where : (kept : Bool) (x : X) (others : List X) (rest : Bool) → list_any test others ≡ rest → list_any test (cond kept (x ∷ others) others) ≡ ((test x && kept) || rest)
+  any_where true x others rest is = both (test x) is
+    where
+      both : (first : Bool) → list_any test others ≡ rest → (first || list_any test others) ≡ ((first && true) || rest)
+      both true is = refl
+      both false is = is
+  any_where false x others rest is = none (test x) is
+    where
+      none : (first : Bool) → list_any test others ≡ rest → list_any test others ≡ ((first && false) || rest)
+      none true is = is
+      none false is = is
+
+  -- some element that is kept passes
+  pub list_any-filter : (xs : List X) → list_any test (filter keep xs) ≡ list_any (λ x. test x && keep x) xs
+  list_any-filter [] = refl
+  list_any-filter (x ∷ xs) = any_where (keep x) x (filter keep xs) (list_any (λ y. test y && keep y) xs) (list_any-filter xs)
+
 pub filter-map : {X Y : Type 0} (f : X → Y) (test : Y → Bool) (xs : List X) → filter test (map f xs) ≡ map f (filter (λ x. test (f x)) xs)
 filter-map f test [] = refl
 filter-map f test (x ∷ xs) = ap (λ rest. cond (test (f x)) (f x ∷ rest) rest) (filter-map f test xs)

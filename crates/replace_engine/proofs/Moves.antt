@@ -59,7 +59,7 @@ module _ (s e n : ℕ) (units : List ℕ) where
   shifts-told [] = refl
   shifts-told (row ∷ rows) = ap (λ rest. shift_of (move_by (moved_row s e n units) row) ∷ rest) (shifts-told rows)
 
-  kept-rows : (rows : List SpanRow) → spans_in (filter (λ row. not (is_emptied_row s e n row)) rows) ≡ kept_spans s e n (spans_in rows)
+  pub kept-rows : (rows : List SpanRow) → spans_in (filter (λ row. not (is_emptied_row s e n row)) rows) ≡ kept_spans s e n (spans_in rows)
   kept-rows rows = sym (filter-map span_of (λ span. not (is_emptied s e n span)) rows)
 
   pub emptied-rows : (rows : List SpanRow) → spans_in (filter (is_emptied_row s e n) rows) ≡ emptied_spans s e n (spans_in rows)

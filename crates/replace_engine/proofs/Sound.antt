@@ -30,6 +30,13 @@ formed_as state units rows same_units same_spans formed = rw (same_units, same_s
 pub seated_as : (slots : ℕ) (spans others : List Span) → others ≡ spans → IsSeated slots spans → IsSeated slots others
 seated_as slots spans others same seated = rw same seated
 
+pub keeps_trans : (old mid new : Change) → KeepsRoom old mid → KeepsRoom mid new → KeepsRoom old new
+keeps_trans old mid new first second = record {
+  removed = omega (arith, first.removed, second.removed);
+  moved = omega (arith, first.moved, second.moved);
+  added = omega (arith, first.added, second.added);
+}
+
 room_kept : (old new : Change) (count fewer : ℕ) → fewer ≤ count → KeepsRoom old new → HasRoom count old → HasRoom fewer new
 room_kept old new count fewer few keeps room = record {
   removed = omega (arith, keeps.removed, room.removed);
@@ -43,7 +50,7 @@ sound_with units rows change old count few keeps room formed = record { formed =
 
 -- ---- spare spans
 
-room_grows : (rows more : ℕ) (old new : Change) → rows ≤ more → KeepsRoom old new → span_room rows old ≤ span_room more new
+pub room_grows : (rows more : ℕ) (old new : Change) → rows ≤ more → KeepsRoom old new → span_room rows old ≤ span_room more new
 room_grows rows more old new grows keeps = omega (arith, grows, keeps.removed, keeps.moved, keeps.added)
 
 spare_count : (test : Bool) (before after all rows have : ℕ) → before ≤ after → all ≡ rows → have ≡ (if test then all else all + 1)

@@ -1,7 +1,6 @@
 -- Rows that are set and removed, as the spans that they stand for, and what is told of them.
-use Rattle.std.proofs.Common.{◌≡◌, ℕ, ◌++◌, Bool, true, false, not, cond, List, [], ◌∷◌, map, take, drop, length, refl, sym, ap, ◌∙◌}
+use Rattle.std.proofs.Common.{◌≡◌, ℕ, Bool, true, false, not, cond, List, [], ◌∷◌, map, refl, sym, ap, ◌∙◌}
 use Rattle.std.specs.List.{filter}
-use Rattle.std.proofs.lemmas.List.{take_at}
 use Rattle.edit_base.specs.declared.rows.SpanRow.{SpanRow}
 use Rattle.edit_model.specs.declared.changes.MovedRow.{MovedRow}
 use Rattle.edit_model.specs.State.{Span}
@@ -15,10 +14,6 @@ pub effect_from : {start old_end grown : ℕ} (removed : List SpanRow) (moved : 
     → start ≡ effect.start → old_end ≡ effect.old_end → grown ≡ effect.grown → map span_of removed ≡ effect.removed → map shift_of moved ≡ effect.moved → map span_of added ≡ effect.added
     → record { start = start; old_end = old_end; grown = grown; removed = map span_of removed; moved = map shift_of moved; added = map span_of added } ≡ effect
 effect_from removed moved added effect start old_end grown removed_is moved_is added_is = rw (start, old_end, grown, removed_is, moved_is, added_is) refl
-
--- a vector whose elements are written over in place
-pub written_over : {X : Type 0} (n : ℕ) (new old : List X) → length new ≡ n → take n (new ++ drop (length new) old) ≡ new
-written_over n new old long = take_at new (drop (length new) old) n long
 
 -- ---- set
 

@@ -1,14 +1,19 @@
--- The table of verdicts of a set, in parts.
-use Rattle.std.specs.Prelude.{Bool, List, [], ◌∷◌, nat_lt, int_lt}
-use Rattle.edit_base.specs.declared.bounds.TheConstants.Limits.{SPANS}
+-- The tables of verdicts of a set and of a replacement, in parts.
+use Rattle.std.specs.Prelude.{ℤ, ◌++◌, ◌&&◌, ◌==◌, Bool, List, [], ◌∷◌, length, nat_lt, int_lt}
+use Rattle.edit_base.specs.declared.bounds.TheConstants.Limits.{TEXT, SPANS}
+use Rattle.edit_base.specs.declared.rows.Incoming.{Incoming}
+use Rattle.edit_base.specs.declared.rows.NewSpan.{NewSpan}
+use Rattle.edit_base.specs.declared.rows.SpanRow.{SpanRow}
 use Rattle.edit_base.specs.declared.verdicts.Verdict.{Verdict}
-use Rattle.edit_base.specs.declared.verdicts.Verdict.TheVariants.{Ignored, Refused}
-use Rattle.edit_base.specs.declared.verdicts.Refusal.TheVariants.{Order, Beyond, Below, ParagraphStart, ParagraphEnd, SpansFull}
+use Rattle.edit_base.specs.declared.verdicts.Verdict.TheVariants.{NoChange, Ignored, Refused}
+use Rattle.edit_base.specs.declared.verdicts.Refusal.TheVariants.{Order, Beyond, Below, ParagraphStart, ParagraphEnd, TooLong, SpansFull}
 use Rattle.edit_model.specs.State.{State}
-use Rattle.edit_model.specs.Verdicts.{goes_beyond, goes_below, breaks_paragraph, is_ignored, spans_after}
+use Rattle.edit_model.specs.Verdicts.{goes_beyond, goes_below, breaks_paragraph, is_ignored, changes_nothing, length_after, spans_after, spans_then}
 use Rattle.edit_model.specs.declared.steps.Step.{Step}
 use Rattle.edit_model.specs.declared.steps.Step.TheVariants as step
+use Rattle.replace_engine.specs.declared.cut.Cut.{Cut}
 use Rattle.replace_engine.specs.declared.judging.AskedSpan.{AskedSpan}
+use Rattle.replace_engine.specs.Arrivals.{arrivals, stayed}
 
 -- the set of a span
 abbrev pub set_of : AskedSpan → Step
@@ -30,3 +35,28 @@ place_lines state asked =
     ∷ (goes_beyond state asked.start asked.end, Refused Beyond)
     ∷ (goes_below asked.start asked.end, Refused Below)
     ∷ kind_lines state asked
+
+-- ---- replacements
+
+-- of a text that isn't too long then
+abbrev pub span_lines : Cut → List SpanRow → List NewSpan → List (Bool × Verdict)
+span_lines cut rows spans =
+    (cut.start == cut.end && cut.grown == 0 && length (arrivals cut (stayed cut rows) spans) == 0, NoChange)
+    ∷ (nat_lt SPANS (length (stayed cut rows ++ arrivals cut (stayed cut rows) spans)), Refused SpansFull)
+    ∷ []
+
+-- behind the tests of what comes and of the places
+abbrev pub exchange_lines : State → ℤ → ℤ → Incoming → List (Bool × Verdict)
+exchange_lines state start end incoming =
+    (changes_nothing state start end incoming, NoChange)
+    ∷ (nat_lt TEXT (length_after state start end incoming), Refused TooLong)
+    ∷ (nat_lt SPANS (spans_then state start end incoming), Refused SpansFull)
+    ∷ []
+
+-- behind the tests of what comes
+abbrev pub range_lines : State → ℤ → ℤ → Incoming → List (Bool × Verdict)
+range_lines state start end incoming =
+    (int_lt end start, Refused Order)
+    ∷ (goes_beyond state start end, Refused Beyond)
+    ∷ (goes_below start end, Refused Below)
+    ∷ exchange_lines state start end incoming

@@ -1,11 +1,11 @@
 -- Rows that a replacement empties and moves.
-use Rattle.std.specs.Prelude.{ℕ, ◌≤◌, Bool, List}
+use Rattle.std.specs.Prelude.{ℕ, ◌≤◌, Bool, List, filter}
 use Rattle.std.specs.List.{list_any}
 use Rattle.edit_base.specs.declared.rows.SpanRow.{SpanRow}
-use Rattle.edit_model.specs.State.{Span}
+use Rattle.edit_model.specs.State.{Span, State}
 use Rattle.edit_model.specs.Flags.{kind_of, is_paragraph}
-use Rattle.edit_model.specs.Replaced.{is_emptied, moved_span}
-use Rattle.edit_model.specs.Changed.{span_of, shift_of, has_moved}
+use Rattle.edit_model.specs.Replaced.{is_emptied, moved_span, emptied_spans, kept_spans}
+use Rattle.edit_model.specs.Changed.{Effect, span_of, shift_of, shifts_by, has_moved}
 use Rattle.replace_engine.specs.Rows.{move_by}
 
 -- a paragraph span is attached
@@ -29,3 +29,14 @@ has_moved_by move row = has_moved (shift_of (move_by move row))
 pub record IsRowOver (length : ℕ) (row : SpanRow) : Type 0 where
   pub start : row.start ≤ length
   pub end : row.end ≤ length
+
+-- what a replacement changes, with these spans coming
+abbrev pub exchanged_effect : State → ℕ → ℕ → ℕ → List Span → Effect
+exchanged_effect state s e n added = record {
+  start = s;
+  old_end = e;
+  grown = n;
+  removed = emptied_spans s e n state.spans;
+  moved = filter has_moved (shifts_by (moved_span s e n state.units) (kept_spans s e n state.spans));
+  added = added;
+}

@@ -4,7 +4,7 @@ ghost use Rattle.std.specs.Prelude.{◌≡◌, ◌≤◌, ◌<◌, length, posit
 ghost use Rattle.edit_model.specs.Boundaries.{is_boundary, is_newline, next_boundary};
 
 /// The unit that ends a paragraph.
-const NEWLINE: u16 = 10;
+pub const NEWLINE: u16 = 10;
 
 /// Whether a place is a boundary of paragraphs.
 pub fn is_boundary(units: &[u16], at: u32) -> bool

@@ -9,14 +9,18 @@ ghost use Rattle.edit_model.specs.Attached.{has_id, is_attached};
 ghost use Rattle.edit_model.specs.Boundaries.{is_boundary};
 ghost use Rattle.edit_model.specs.Flags.{is_bad, kind_of, is_paragraph, is_point_mark};
 ghost use Rattle.edit_model.specs.Replaced.{spliced_length};
-ghost use Rattle.edit_model.specs.Verdicts.{first_of, judged, lacks_slot, spans_after, watches};
+ghost use Rattle.edit_model.specs.Verdicts.{first_of, is_reserved, judged, lacks_slot, spans_after, watches};
+ghost use Rattle.edit_model.specs.Over.{is_watch};
 ghost use Rattle.edit_model.specs.WellFormed.{is_kept_what};
 ghost use Rattle.replace_engine.specs.Rows.{spans_in, state_of};
-ghost use Rattle.replace_engine.specs.Lines.{kind_lines, place_lines};
+ghost use Rattle.replace_engine.specs.Lines.{kind_lines, place_lines, range_lines, exchange_lines, span_lines};
 
+use crate::arriving::{count_arrivals, count_kept};
 use crate::boundaries::is_boundary;
+use crate::cut::Cut;
 use crate::places::place_of;
-use edit_base::{Incoming, Limits, Refusal, SpanRow, Verdict, What};
+use crate::queries::is_watch;
+use edit_base::{Incoming, Limits, NewSpan, Refusal, SpanRow, Verdict, What};
 use span_flags::{Kind, flags_of, kind_of_word};
 
 /// A span as it is asked for, its places not looked at yet.
@@ -31,33 +35,112 @@ pub struct AskedSpan {
 
 /// The verdict of a replacement of the units from `start` to `end`.
 #[tactic(auto, unfolding(edit_model::specs::Verdicts::judged))]
-pub fn judge_replace(units: &[u16], start: i32, end: i32, incoming: &Incoming) -> Verdict
-    requires { length units.now ≤ 1048576 }
-    ensures verdict { (slots : ℕ) (spans : List Span)
-        → result ≡ judged (record { units = units.now; spans = spans }) slots (Replace start end incoming.now) }
-    ensures least { result ≡ Done → pos 0 ≤ℤ start }
-    ensures order { result ≡ Done → start ≤ℤ end }
-    ensures within { result ≡ Done → end ≤ℤ pos (length units.now) }
-    ensures limit { result ≡ Done
-        → spliced_length (length units.now) (place start) (place end) (length incoming.now.units) ≤ 1048576 }
+pub fn judge_replace(
+    units: &[u16],
+    rows: &[SpanRow],
+    start: i32,
+    end: i32,
+    incoming: &Incoming,
+) -> Verdict
+    requires text { length units.now ≤ 1048576 }
+    requires spans { length rows.now ≤ 4096 }
+    ensures verdict { (slots : ℕ) → result ≡ judged (state_of units.now rows.now) slots (Replace start end incoming.now) }
+{
+    let spans = incoming.spans.as_slice();
+    if brings_reserved(spans) {
+        return Verdict::Refused(Refusal::Reserved);
+    }
+    if brings_bad_flags(spans) {
+        return Verdict::Refused(Refusal::Flags);
+    }
+    judge_range(units, rows, start, end, incoming)
+}
+
+/// Whether an incoming span is none that a replacement may bring.
+fn brings_reserved(spans: &[NewSpan]) -> bool
+    ensures { result ≡ list_any is_reserved spans.now }
+{
+    spans.iter().any(is_reserved)
+}
+
+fn is_reserved(span: &NewSpan) -> bool
+    ensures { result ≡ is_reserved span.now }
+{
+    span.id < 3 || is_kept_what(span.what) || is_watch(span.what)
+}
+
+fn brings_bad_flags(spans: &[NewSpan]) -> bool
+    ensures { result ≡ list_any (λ span. is_bad span.flags) spans.now }
+{
+    spans.iter().any(|span| is_bad(span.flags))
+}
+
+/// The verdict of a replacement whose spans may come.
+fn judge_range(
+    units: &[u16],
+    rows: &[SpanRow],
+    start: i32,
+    end: i32,
+    incoming: &Incoming,
+) -> Verdict
+    requires text { length units.now ≤ 1048576 }
+    requires spans { length rows.now ≤ 4096 }
+    ensures { result ≡ first_of (range_lines (state_of units.now rows.now) start end incoming.now) }
 {
     let len = units.len() as i64;
-    let (start, end) = (i64::from(start), i64::from(end));
     if end < start {
         return Verdict::Refused(Refusal::Order);
     }
-    if start > len || end > len {
+    if i64::from(start) > len || i64::from(end) > len {
         return Verdict::Refused(Refusal::Beyond);
     }
     if start < 0 || end < 0 {
         return Verdict::Refused(Refusal::Below);
     }
-    if start == end && incoming.units.is_empty() {
-        return Verdict::NoChange;
-    }
+    judge_exchange(units, rows, place_of(start), place_of(end), incoming)
+}
+
+/// The verdict of a replacement whose places lie in the text too.
+fn judge_exchange(
+    units: &[u16],
+    rows: &[SpanRow],
+    start: u32,
+    end: u32,
+    incoming: &Incoming,
+) -> Verdict
+    requires text { length units.now ≤ 1048576 }
+    requires spans { length rows.now ≤ 4096 }
+    requires order { start ≤ end }
+    requires within { end ≤ length units.now }
+    ensures { result ≡ first_of (exchange_lines (state_of units.now rows.now) (pos start) (pos end) incoming.now) }
+{
     let kept = units.len() - (end - start) as usize;
     if incoming.units.len() > Limits::TEXT as usize - kept {
         return Verdict::Refused(Refusal::TooLong);
+    }
+    let cut = Cut {
+        units,
+        brought: incoming.units.as_slice(),
+        start,
+        end,
+        grown: incoming.units.len() as u32,
+        boundary: units.len() as u32,
+    };
+    judge_spans(rows, &cut, incoming.spans.as_slice())
+}
+
+/// The verdict of a replacement whose text isn't too long.
+fn judge_spans(rows: &[SpanRow], cut: &Cut, spans: &[NewSpan]) -> Verdict
+    requires { length rows.now ≤ 4096 }
+    ensures { result ≡ first_of (span_lines cut.now rows.now spans.now) }
+{
+    let arrivals = count_arrivals(spans, cut, rows);
+    if cut.start == cut.end && cut.grown == 0 && arrivals == 0 {
+        return Verdict::NoChange;
+    }
+    let stayed = count_kept(rows, cut);
+    if arrivals > Limits::SPANS as usize - stayed {
+        return Verdict::Refused(Refusal::SpansFull);
     }
     Verdict::Done
 }

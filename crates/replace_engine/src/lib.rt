@@ -1,8 +1,10 @@
 //! The text with its spans: edits are judged, done, and told of.
 #![tactic(auto)]
 
+mod arriving;
 mod boundaries;
 mod cut;
+mod exchanging;
 mod followers;
 mod judging;
 mod moving;

@@ -5,9 +5,9 @@ ghost use Rattle.std.specs.List.{All};
 ghost use Rattle.edit_model.specs.Boundaries.{next_boundary};
 ghost use Rattle.edit_model.specs.Flags.{kind_of, is_paragraph};
 ghost use Rattle.edit_model.specs.Replaced.{is_emptied, moved_span, kept_spans};
-ghost use Rattle.edit_model.specs.Changed.{effect_of, span_of, shift_of, has_moved, replaced_effect};
+ghost use Rattle.edit_model.specs.Changed.{effect_of, span_of, shift_of, has_moved};
 ghost use Rattle.replace_engine.specs.Rows.{HasRoom, KeepsRoom, spans_in, state_of, move_by};
-ghost use Rattle.replace_engine.specs.Moved.{has_paragraph, moved_row, is_emptied_row, has_moved_by, IsRowOver};
+ghost use Rattle.replace_engine.specs.Moved.{has_paragraph, moved_row, is_emptied_row, has_moved_by, exchanged_effect, IsRowOver};
 
 use crate::boundaries::next_boundary;
 use crate::cut::Cut;
@@ -53,7 +53,8 @@ pub fn move_spans(rows: &mut Vec<SpanRow>, cut: &Cut, change: &mut Change)
     ensures rows { spans_in rows.new.items ≡ map (moved_span cut.now.start cut.now.end cut.now.grown cut.now.units.now)
         (kept_spans cut.now.start cut.now.end cut.now.grown (spans_in rows.old.items)) }
     ensures effect { effect_of change.new
-        ≡ replaced_effect (state_of cut.now.units.now rows.old.items) cut.now.start cut.now.end cut.now.grown }
+        ≡ exchanged_effect (state_of cut.now.units.now rows.old.items) cut.now.start cut.now.end cut.now.grown [] }
+    ensures none { change.new.added.items ≡ [] }
     ensures fewer { length rows.new.items ≤ length rows.old.items }
     ensures capacity { vec_capacity rows.old ≤ vec_capacity rows.new }
     ensures lists { KeepsRoom change.old change.new }
@@ -88,7 +89,8 @@ fn drop_emptied(rows: &mut Vec<SpanRow>, cut: &Cut)
     rows.retain(|row| !is_emptied(row, cut));
 }
 
-fn is_emptied(row: &SpanRow, cut: &Cut) -> bool
+/// Whether the span may not be empty, and is emptied.
+pub fn is_emptied(row: &SpanRow, cut: &Cut) -> bool
     ensures { result ≡ is_emptied_row cut.now.start cut.now.end cut.now.grown row.now }
 {
     is_point_mark(kind_of_word(row.flags))

@@ -9,6 +9,7 @@ ghost use Rattle.edit_model.specs.Over.{by_priority, is_layout, is_picked, is_wa
 ghost use Rattle.replace_engine.specs.Rows.{spans_in, IsAtOrder};
 
 use edit_base::{NoMemory, Pick, SpanRow, What};
+use span_flags::priority_of_word;
 
 /// The rows over a range that are picked, by priority and then in order of attachment, each with its place in the list
 /// as its order. `out` is cleared first, and empty where there is no memory.
@@ -94,13 +95,7 @@ fn sort(rows: &mut Vec<SpanRow>) -> Result<(), NoMemory>
 fn rank(row: &SpanRow) -> u8
     ensures { result ≡ 255 - priority_of row.now.flags }
 {
-    u8::MAX - priority_of(row.flags)
-}
-
-fn priority_of(flags: u32) -> u8
-    ensures { result ≡ priority_of flags }
-{
-    ((flags >> 16) & 0xff) as u8
+    u8::MAX - priority_of_word(row.flags)
 }
 
 /// Whether a span touches the range, and does more than touch it where neither is empty.
@@ -122,7 +117,8 @@ fn is_picked(pick: Pick, what: What) -> bool
     }
 }
 
-fn is_watch(what: What) -> bool
+/// Whether this is the seat of a watcher.
+pub fn is_watch(what: What) -> bool
     ensures { result ≡ is_watch what }
 {
     matches!(what, What::Watch(_))

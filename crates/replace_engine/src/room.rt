@@ -28,20 +28,26 @@ pub fn push_within<T: Drop>(list: &mut Vec<T>, item: T)
     let _ = list.push(item);
 }
 
-/// Room for one row more, and for telling of all rows. Without memory nothing changes but the room.
-pub fn reserve_row(rows: &mut Vec<SpanRow>, change: &mut Change) -> Result<(), NoMemory>
-    ensures ok { OnOk result (vec_len rows.old + 1 ≤ vec_capacity rows.new) }
-    ensures told { OnOk result (HasRoom (vec_len rows.old + 1) change.new) }
+/// Room for so many rows more, and for telling of all rows. Where there is room already it asks for no memory, and
+/// without memory nothing changes but the room.
+pub fn reserve_rows(
+    rows: &mut Vec<SpanRow>,
+    more: usize,
+    change: &mut Change,
+) -> Result<(), NoMemory>
+    requires { more ≤ 4294967295 }
+    ensures ok { OnOk result (vec_len rows.old + more ≤ vec_capacity rows.new) }
+    ensures told { OnOk result (HasRoom (vec_len rows.old + more) change.new) }
     ensures rows { rows.new.items ≡ rows.old.items }
     ensures change { (change.new.start ≡ change.old.start) × (change.new.old_end ≡ change.old.old_end)
         × (change.new.grown ≡ change.old.grown) × (change.new.removed.items ≡ change.old.removed.items)
         × (change.new.moved.items ≡ change.old.moved.items) × (change.new.added.items ≡ change.old.added.items) }
     ensures capacity { vec_capacity rows.old ≤ vec_capacity rows.new }
     ensures lists { KeepsRoom change.old change.new }
-    ensures room { vec_len rows.old + 1 ≤ vec_capacity rows.old → HasRoom (vec_len rows.old + 1) change.old → IsOk result }
+    ensures room { vec_len rows.old + more ≤ vec_capacity rows.old → HasRoom (vec_len rows.old + more) change.old → IsOk result }
 {
-    rows.reserve(1)?;
-    let count = rows.len() + 1;
+    let count = rows.len() + more;
+    make_room(rows, count)?;
     make_room(&mut change.removed, count)?;
     make_room(&mut change.moved, count)?;
     make_room(&mut change.added, count)?;

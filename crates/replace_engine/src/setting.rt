@@ -6,7 +6,7 @@ ghost use Rattle.edit_model.specs.Changed.{Effect, effect_of, span_of, shift_of,
 ghost use Rattle.replace_engine.specs.Rows.{HasRoom, KeepsRoom, span_room, spans_in, state_of, in_place, move_by};
 
 use crate::judging::is_attached;
-use crate::room::{push_within, reserve_row};
+use crate::room::{push_within, reserve_rows};
 use crate::telling::start_change;
 use edit_base::{NoMemory, SpanRow};
 use edit_model::{Change, MovedRow};
@@ -28,7 +28,7 @@ pub fn set_row(rows: &mut Vec<SpanRow>, row: &SpanRow, change: &mut Change) -> R
         replace_row(rows, row, change);
         return Ok(());
     }
-    reserve_row(rows, change)?;
+    reserve_rows(rows, 1, change)?;
     start_change(change, 0, 0, 0);
     push_within(&mut change.added, *row);
     push_within(rows, *row);

@@ -1,13 +1,14 @@
 //! Edits and queries at work: their verdicts, what they leave and change, and the limits.
 
-ghost use Rattle.std.specs.Prelude.{◌≡◌, ◌≤◌, ◌<◌, [], false, length, IfOk};
+ghost use Rattle.std.specs.Prelude.{◌≡◌, ◌<◌, nat_le};
+ghost use Rattle.edit_model.specs.Brought.{IsBrought};
 ghost use Rattle.edit_model.specs.State.{State};
 ghost use Rattle.edit_model.specs.Leads.{LeadsTo};
 
 use crate::followers::{Follower, Unfollowed};
 use crate::text::SpannedText;
 use edit_base::{
-    Incoming, Items, NoMemory, Pick, Refusal, SpanRow, Steps, Verdict, What, units_of,
+    Incoming, Items, NewSpan, NoMemory, Pick, Refusal, SpanRow, Steps, Verdict, What, units_of,
 };
 use edit_model::{Change, Step};
 use std::alloc::Global;
@@ -16,24 +17,49 @@ use std::process::Abort;
 use std::sync::ledger::{Blank, Ledger};
 use std::test::Fail;
 
-/// What brings these units alone.
-fn bringing(rt: &impl Abort, alloc: Global, units: Vec<u16>) -> Incoming
-    ensures units { length result.units ≤ 1073741824 }
-    ensures spans { result.spans ≡ [] }
-    ensures composing { result.composing ≡ false }
+/// What brings these units, and these spans over them.
+fn bringing(rt: &impl Abort, alloc: Global, units: Vec<u16>, spans: Vec<NewSpan>) -> Incoming
+    ensures { IsBrought result }
 {
     assert!(rt; units.len() <= 65_536);
+    assert!(rt; spans.len() <= 65_536);
+    assert!(rt; spans.iter().all(is_ordered));
     Incoming {
         units: Items::from_vec(units),
-        spans: Items::from_vec(Vec::new(alloc)),
+        spans: Items::from_vec(spans),
         composing: false,
     }
+}
+
+fn is_ordered(span: &NewSpan) -> bool
+    ensures { result ≡ nat_le span.now.start span.now.end }
+{
+    span.start <= span.end
+}
+
+/// An id, a start, an end and a flags word, and what the span carries.
+type Came = (u32, u32, u32, u32, What);
+
+/// The incoming spans.
+fn spans_of(alloc: Global, came: &[Came]) -> Result<Vec<NewSpan>, NoMemory> {
+    let mut spans = Vec::new(alloc);
+    for (id, start, end, flags, what) in came {
+        spans.push(NewSpan {
+            id: *id,
+            start: *start,
+            end: *end,
+            flags: *flags,
+            what: *what,
+        })?;
+    }
+    Ok(spans)
 }
 
 /// An edit that is asked for; every span set is a tag but the seat of a watcher.
 #[derive(Clone, Copy, Debug)]
 enum Ask<'a> {
     Replace(i32, i32, &'a str),
+    Bring(i32, i32, &'a str, &'a [Came]),
     Set(u32, i32, i32, u32, u32),
     Seat(u32, u8),
     Remove(u32),
@@ -47,7 +73,12 @@ fn step_of(rt: &impl Abort, alloc: Global, ask: Ask) -> Result<Step, NoMemory> {
         Ask::Replace(start, end, brought) => Step::Replace {
             start,
             end,
-            incoming: bringing(rt, alloc, units_of(alloc, brought)?),
+            incoming: bringing(rt, alloc, units_of(alloc, brought)?, Vec::new(alloc)),
+        },
+        Ask::Bring(start, end, brought, came) => Step::Replace {
+            start,
+            end,
+            incoming: bringing(rt, alloc, units_of(alloc, brought)?, spans_of(alloc, came)?),
         },
         Ask::Set(id, start, end, flags, tag) => Step::Set {
             id,
@@ -77,7 +108,11 @@ fn edit<L: Ledger>(
 ) -> Result<Verdict, NoMemory> {
     match ask {
         Ask::Replace(start, end, brought) => {
-            let incoming = bringing(rt, alloc, units_of(alloc, brought)?);
+            let incoming = bringing(rt, alloc, units_of(alloc, brought)?, Vec::new(alloc));
+            text.replace(start, end, &incoming, steps)
+        }
+        Ask::Bring(start, end, brought, came) => {
+            let incoming = bringing(rt, alloc, units_of(alloc, brought)?, spans_of(alloc, came)?);
             text.replace(start, end, &incoming, steps)
         }
         Ask::Set(id, start, end, flags, tag) => {
@@ -223,6 +258,167 @@ fn scripts<L: Ledger>(rt: &impl Abort, alloc: Global, blank: Blank) -> Result<()
     Ok(())
 }
 
+/// An edit of "ab\ncd", over which a span of the id 5 lies that may not be empty; its verdict, and the spans then.
+type Arrival<'a> = (Case<'a>, &'a [Tagged]);
+
+/// Incoming spans are attached where their ids are free and they may stand, and skipped elsewhere.
+fn arrivals<L: Ledger>(rt: &impl Abort, alloc: Global, blank: Blank) -> Result<(), NoMemory>
+    requires name { blank.name ≡ L.name }
+    requires parts { blank.parts ≡ L.parts }
+    requires some { 0 < blank.parts }
+{
+    let mut steps = Steps::<L>::start(blank);
+    let done = Verdict::Done;
+    let tag = What::Tag(1);
+    let reserved = Verdict::Refused(Refusal::Reserved);
+    let flags = Verdict::Refused(Refusal::Flags);
+    let before: &[Tagged] = &[(5, 1, 4, 33, 0)];
+    let five: [Case; 2] = [
+        (Ask::Replace(0, 0, "ab\ncd"), done),
+        (Ask::Set(5, 1, 4, 33, 0), done),
+    ];
+    let cases: [Arrival; 16] = [
+        // An id that is attached, an empty span that may not be, and an id that came before are skipped.
+        (
+            (
+                Ask::Bring(
+                    0,
+                    0,
+                    "xy",
+                    &[
+                        (7, 0, 2, 17, tag),
+                        (5, 0, 1, 17, tag),
+                        (8, 1, 1, 33, tag),
+                        (7, 1, 2, 17, tag),
+                        (8, 1, 1, 34, tag),
+                    ],
+                ),
+                done,
+            ),
+            &[(5, 3, 6, 33, 0), (7, 0, 2, 17, 1), (8, 1, 1, 34, 1)],
+        ),
+        // Places behind the units that come are clipped to them, though more text follows.
+        (
+            (
+                Ask::Bring(1, 1, "z", &[(9, 0, 7, 17, tag), (6, 2, 3, 34, tag)]),
+                done,
+            ),
+            &[(5, 2, 5, 33, 0), (9, 1, 2, 17, 1), (6, 2, 2, 34, 1)],
+        ),
+        (
+            (Ask::Bring(1, 1, "z", &[(9, 3, 7, 33, tag)]), done),
+            &[(5, 2, 5, 33, 0)],
+        ),
+        // A paragraph span stands at boundaries of the text that stands then.
+        (
+            (
+                Ask::Bring(
+                    3,
+                    3,
+                    "q\nr",
+                    &[
+                        (10, 0, 2, 51, tag),
+                        (11, 0, 3, 51, tag),
+                        (12, 1, 2, 51, tag),
+                    ],
+                ),
+                done,
+            ),
+            &[(5, 1, 7, 33, 0), (10, 3, 5, 51, 1)],
+        ),
+        (
+            (
+                Ask::Bring(5, 5, "e", &[(10, 1, 1, 51, tag), (11, 0, 1, 51, tag)]),
+                done,
+            ),
+            &[(5, 1, 4, 33, 0), (10, 6, 6, 51, 1)],
+        ),
+        (
+            (Ask::Bring(3, 5, "", &[(10, 0, 0, 51, tag)]), done),
+            &[(5, 1, 3, 33, 0), (10, 3, 3, 51, 1)],
+        ),
+        (
+            (
+                Ask::Bring(0, 1, "", &[(10, 0, 0, 51, tag), (11, 0, 0, 18, tag)]),
+                done,
+            ),
+            &[(5, 0, 3, 33, 0), (10, 0, 0, 51, 1), (11, 0, 0, 18, 1)],
+        ),
+        // The id of an emptied span is free.
+        (
+            (Ask::Bring(0, 5, "new", &[(5, 0, 3, 17, tag)]), done),
+            &[(5, 0, 3, 17, 1)],
+        ),
+        // Where nothing goes and no unit comes, a span that is attached is a change, and skipped ones are none.
+        (
+            (Ask::Bring(2, 2, "", &[(12, 0, 9, 17, tag)]), done),
+            &[(5, 1, 4, 33, 0), (12, 2, 2, 17, 1)],
+        ),
+        (
+            (
+                Ask::Bring(
+                    2,
+                    2,
+                    "",
+                    &[(13, 0, 9, 33, tag), (5, 0, 0, 17, tag), (14, 0, 0, 51, tag)],
+                ),
+                Verdict::NoChange,
+            ),
+            before,
+        ),
+        // What comes is judged before the places.
+        (
+            (
+                Ask::Bring(9, 1, "", &[(9, 0, 0, 16, tag), (2, 0, 0, 17, tag)]),
+                reserved,
+            ),
+            before,
+        ),
+        (
+            (
+                Ask::Bring(9, 1, "", &[(9, 0, 0, 17, tag), (8, 0, 0, 16, tag)]),
+                flags,
+            ),
+            before,
+        ),
+        (
+            (
+                Ask::Bring(0, 0, "a", &[(9, 0, 1, 17, What::Watch(0))]),
+                reserved,
+            ),
+            before,
+        ),
+        (
+            (
+                Ask::Bring(0, 0, "a", &[(9, 0, 1, 17, What::Composing)]),
+                reserved,
+            ),
+            before,
+        ),
+        (
+            (
+                Ask::Bring(9, 1, "", &[(9, 0, 0, 17, What::Face(3))]),
+                Verdict::Refused(Refusal::Order),
+            ),
+            before,
+        ),
+        (
+            (
+                Ask::Bring(0, -1, "", &[(9, 0, 0, 17, tag)]),
+                Verdict::Refused(Refusal::Order),
+            ),
+            before,
+        ),
+    ];
+    for (case, spans) in &cases {
+        let mut text = SpannedText::new(alloc)?;
+        plays(rt, alloc, &mut text, &five, &mut steps)?;
+        plays(rt, alloc, &mut text, &[*case], &mut steps)?;
+        has_spans(rt, &text, spans);
+    }
+    Ok(())
+}
+
 /// Each replacement has its verdict, and those that are done leave this text.
 fn edits<L: Ledger>(rt: &impl Abort, alloc: Global, blank: Blank) -> Result<(), NoMemory>
     requires name { blank.name ≡ L.name }
@@ -260,7 +456,7 @@ fn full<L: Ledger>(
     steps: &mut Steps<L>,
 ) -> Result<SpannedText, NoMemory> {
     let mut text = SpannedText::new(alloc)?;
-    let block = bringing(rt, alloc, vec![in alloc; 97; 65_536]?);
+    let block = bringing(rt, alloc, vec![in alloc; 97; 65_536]?, Vec::new(alloc));
     for _ in 0..16 {
         let done = text.replace(0, 0, &block, steps)?;
         assert_eq!(rt; done, Verdict::Done);
@@ -362,7 +558,7 @@ fn changes<L: Ledger>(rt: &impl Abort, alloc: Global, blank: Blank) -> Result<()
     let mut steps = Steps::<L>::start(blank);
     let mut text = SpannedText::new(alloc)?;
     tells(rt, text.change(), [0, 0, 0], [&[], &[], &[]]);
-    let told: [Told; 9] = [
+    let told: [Told; 10] = [
         (Ask::Replace(0, 0, "abcd"), [0, 0, 4], [&[], &[], &[]]),
         (Ask::Set(5, 0, 1, 17, 1), [0, 0, 0], [&[], &[], &[5]]),
         (Ask::Set(6, 1, 2, 33, 2), [0, 0, 0], [&[], &[], &[6]]),
@@ -372,6 +568,20 @@ fn changes<L: Ledger>(rt: &impl Abort, alloc: Global, blank: Blank) -> Result<()
         (Ask::Remove(6), [1, 3, 1], [&[6], &[7], &[]]),
         (Ask::Set(7, 2, 1, 34, 2), [1, 3, 1], [&[6], &[7], &[]]),
         (Ask::Remove(5), [0, 0, 0], [&[5], &[], &[]]),
+        (
+            Ask::Bring(
+                0,
+                0,
+                "y",
+                &[
+                    (9, 0, 1, 17, What::Tag(1)),
+                    (7, 0, 1, 17, What::Tag(1)),
+                    (8, 0, 1, 17, What::Tag(1)),
+                ],
+            ),
+            [0, 0, 1],
+            [&[], &[7], &[9, 8]],
+        ),
     ];
     for (ask, numbers, ids) in &told {
         let _ = edit(rt, alloc, &mut text, *ask, &mut steps)?;
@@ -444,6 +654,12 @@ fn a_full_text_takes_a_unit_only_for_another(rt: HostRuntime) -> Result<(), Fail
 #[test]
 fn spans_stand_where_the_rules_take_them(rt: HostRuntime) -> Result<(), Fail> {
     scripts::<Brand>(&rt, rt.alloc(), Blank::new(1))?;
+    Ok(())
+}
+
+#[test]
+fn incoming_spans_are_attached_or_skipped(rt: HostRuntime) -> Result<(), Fail> {
+    arrivals::<Brand>(&rt, rt.alloc(), Blank::new(1))?;
     Ok(())
 }
 

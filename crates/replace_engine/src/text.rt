@@ -2,27 +2,31 @@
 
 ghost use Rattle.std.specs.Prelude.{ℕ, pos, ◌≤ℤ◌, ◌≡◌, ◌≢◌, ◌≤◌, ◌<◌, ◌+◌, ◌++◌, [], true, false, length, slice_index, slice_get, Some, IfOk, OnOk, OnErr, IsOk};
 ghost use Rattle.std.specs.List.{All};
-ghost use Rattle.edit_base.specs.declared.verdicts.Verdict.TheVariants.{Done};
+ghost use Rattle.edit_base.specs.declared.verdicts.Refusal.TheVariants.{SpansFull};
+ghost use Rattle.edit_base.specs.declared.verdicts.Verdict.TheVariants.{Done, Refused};
 ghost use Rattle.edit_model.specs.declared.steps.Step.TheVariants.{Replace, Set, Remove};
-ghost use Rattle.edit_model.specs.State.{empty_state, text_end};
+ghost use Rattle.edit_model.specs.State.{empty_state, place, text_end};
 ghost use Rattle.edit_model.specs.Attached.{is_attached};
 ghost use Rattle.edit_model.specs.WellFormed.{IsWellFormed, IsSeated};
-ghost use Rattle.edit_model.specs.Verdicts.{judged, length_after};
-ghost use Rattle.edit_model.specs.Replaced.{replaced, spliced_length};
+ghost use Rattle.edit_model.specs.Verdicts.{judged, length_after, spans_then};
+ghost use Rattle.edit_model.specs.Brought.{IsBrought};
+ghost use Rattle.edit_model.specs.Replaced.{replaced, came_spans, spliced_length};
 ghost use Rattle.edit_model.specs.Changed.{no_effect, effect_of, replaced_effect, on_done, stepped, change_of, state_after, effect_after, span_of};
 ghost use Rattle.edit_model.specs.Over.{next_edge, over};
 ghost use Rattle.replace_engine.specs.Rows.{newcomers, spans_in};
 ghost use Rattle.replace_engine.specs.Lines.{set_of};
 
+use crate::arriving::count_spans_then;
 use crate::cut::Cut;
+use crate::exchanging::exchange_spans;
 use crate::judging::{AskedSpan, judge_remove, judge_replace, judge_set};
-use crate::moving::{boundary_behind, move_spans};
+use crate::moving::boundary_behind;
 use crate::places::place_of;
 use crate::queries::{next_edge, spans_over};
-use crate::room::make_room;
+use crate::room::{make_room, reserve_rows};
 use crate::setting::{remove_row, set_row};
 use crate::splice::splice;
-use edit_base::{Incoming, NoMemory, Pick, SpanRow, Steps, Verdict, What};
+use edit_base::{Incoming, Limits, NoMemory, Pick, SpanRow, Steps, Verdict, What};
 use edit_model::{Change, Step};
 use std::alloc::Global;
 use std::marker::Model;
@@ -164,7 +168,7 @@ impl SpannedText {
                 start,
                 end,
                 incoming,
-            } => judge_replace(&self.units, *start, *end, incoming),
+            } => judge_replace(&self.units, &self.rows, *start, *end, incoming),
             Step::Set {
                 id,
                 start,
@@ -186,8 +190,9 @@ impl SpannedText {
     }
 
     /// Makes the units from `start` to `end` the incoming ones, where the verdict is done; else nothing changes. Spans
-    /// that may not be empty and are emptied go, and the ends of the others move. No memory is asked for where the
-    /// incoming units fit the spare ones.
+    /// that may not be empty and are emptied go, the ends of the others move, and the incoming spans come behind them,
+    /// but for those whose id is attached and those that may not stand where they would. No memory is asked for where
+    /// the incoming units fit the spare ones and no span comes.
     #[tactic(auto, using(crate::proofs::Done::by_verdict), unfolding(edit_model::specs::Changed::stepped, edit_model::specs::Changed::change_of))]
     pub fn replace<L: Ledger>(
         &mut self,
@@ -196,9 +201,7 @@ impl SpannedText {
         incoming: &Incoming,
         steps: &mut Steps<L>,
     ) -> Result<Verdict, NoMemory>
-        requires units { length incoming.now.units ≤ 1073741824 }
-        requires spans { incoming.now.spans ≡ [] }
-        requires composing { incoming.now.composing ≡ false }
+        requires { IsBrought incoming.now }
         ensures verdict { IfOk result (λ verdict. verdict ≡ judged self.old.state 0 (Replace start end incoming.now)) }
         ensures state { OnOk result (self.new.state ≡ state_after self.old.state 0 (Replace start end incoming.now)) }
         ensures effect { OnOk result (self.new.effect
@@ -207,12 +210,14 @@ impl SpannedText {
         ensures err { OnErr result ((self.new.state ≡ self.old.state) × (self.new.effect ≡ self.old.effect)
             × (self.new.gap ≡ self.old.gap)) }
 
-        // Within the spare units it succeeds, and a replacement takes at most as many of them as it brings.
-        ensures room { length incoming.now.units ≤ self.old.spare_units → IsOk result }
+        // Within the spare units and without spans it succeeds, and a replacement takes at most as many spare units as
+        // it brings units, and at most one spare span for each span that is attached.
+        ensures room { length incoming.now.units ≤ self.old.spare_units → incoming.now.spans ≡ [] → IsOk result }
         ensures spare_units { IfOk result (λ verdict. self.old.spare_units
             ≤ self.new.spare_units + on_done verdict (length incoming.now.units) 0) }
-        ensures spare_stays { OnErr result (self.old.spare_units ≤ self.new.spare_units) }
-        ensures spare_spans { self.old.spare_spans ≤ self.new.spare_spans }
+        ensures spare_spans { IfOk result (λ verdict. self.old.spare_spans
+            ≤ self.new.spare_spans + on_done verdict (length (came_spans self.old.state (place start) (place end) incoming.now)) 0) }
+        ensures spare_stays { OnErr result ((self.old.spare_units ≤ self.new.spare_units) × (self.old.spare_spans ≤ self.new.spare_spans)) }
 
         ensures well_formed { IsWellFormed self.new.state }
         ensures seated { (slots : ℕ) → IsSeated slots self.old.state.spans → IsSeated slots self.new.state.spans }
@@ -229,42 +234,55 @@ impl SpannedText {
     fn judge_replacement(&self, start: i32, end: i32, incoming: &Incoming) -> Verdict
         ensures verdict { (slots : ℕ) → result ≡ judged self.now.state slots (Replace start end incoming.now) }
         ensures least { result ≡ Done → pos 0 ≤ℤ start }
+        ensures least_end { result ≡ Done → pos 0 ≤ℤ end }
         ensures order { result ≡ Done → start ≤ℤ end }
         ensures within { result ≡ Done → end ≤ℤ text_end self.now.state }
         ensures limit { result ≡ Done → length_after self.now.state start end incoming.now ≤ 1048576 }
+        ensures few { result ≡ Done → spans_then self.now.state start end incoming.now ≤ 4096 }
         ensures well_formed { IsWellFormed self.now.state }
     {
-        judge_replace(&self.units, start, end, incoming)
+        judge_replace(&self.units, &self.rows, start, end, incoming)
     }
 
-    /// The units from `start` to `end` become the incoming ones, and the change says so. Without memory nothing changes,
-    /// and none is asked for where the incoming units fit the spare ones.
+    /// The units from `start` to `end` become the incoming ones, the spans with them, and the change says so. Without
+    /// memory nothing changes, and none is asked for where the incoming units fit the spare ones and no span comes.
     fn exchange(&mut self, start: u32, end: u32, incoming: &Incoming) -> Result<(), NoMemory>
+        requires brought { IsBrought incoming.now }
         requires order { start ≤ end }
         requires within { end ≤ length self.old.state.units }
         requires limit { spliced_length (length self.old.state.units) start end (length incoming.now.units) ≤ 1048576 }
+        requires few { length (replaced self.old.state start end incoming.now).spans ≤ 4096 }
+        requires done { judged self.old.state 0 (Replace (pos start) (pos end) incoming.now) ≡ Done }
         ensures state { OnOk result (self.new.state ≡ replaced self.old.state start end incoming.now) }
-        ensures effect { OnOk result (self.new.effect
-            ≡ replaced_effect self.old.state start end (length incoming.now.units)) }
+        ensures effect { OnOk result (self.new.effect ≡ replaced_effect self.old.state start end incoming.now) }
         ensures err { OnErr result ((self.new.state ≡ self.old.state) × (self.new.effect ≡ self.old.effect)
             × (self.new.gap ≡ self.old.gap)) }
-        ensures room { length incoming.now.units ≤ self.old.spare_units → IsOk result }
+        ensures room { length incoming.now.units ≤ self.old.spare_units → incoming.now.spans ≡ [] → IsOk result }
         ensures spare_units { OnOk result (self.old.spare_units ≤ self.new.spare_units + length incoming.now.units) }
-        ensures spare_stays { OnErr result (self.old.spare_units ≤ self.new.spare_units) }
-        ensures spare_spans { self.old.spare_spans ≤ self.new.spare_spans }
+        ensures spare_spans { OnOk result (self.old.spare_spans
+            ≤ self.new.spare_spans + length (came_spans self.old.state start end incoming.now)) }
+        ensures spare_stays { OnErr result ((self.old.spare_units ≤ self.new.spare_units) × (self.old.spare_spans ≤ self.new.spare_spans)) }
         ensures well_formed { IsWellFormed self.new.state }
         ensures seated { (slots : ℕ) → IsSeated slots self.old.state.spans → IsSeated slots self.new.state.spans }
     {
         let kept = self.units.len() - (end - start) as usize;
         make_room(&mut self.units, kept + incoming.units.len())?;
+        let most = incoming.spans.len().min(Limits::SPANS as usize);
+        reserve_rows(&mut self.rows, most, &mut self.change)?;
         let cut = Cut {
             units: &self.units,
+            brought: incoming.units.as_slice(),
             start,
             end,
             grown: incoming.units.len() as u32,
             boundary: boundary_behind(&self.units, &self.rows, end),
         };
-        move_spans(&mut self.rows, &cut, &mut self.change);
+        exchange_spans(
+            incoming.spans.as_slice(),
+            &cut,
+            &mut self.rows,
+            &mut self.change,
+        );
         splice(
             &mut self.units,
             start as usize,
@@ -272,6 +290,34 @@ impl SpannedText {
             incoming.units.as_slice(),
         );
         Ok(())
+    }
+
+    /// How many spans would stand after a replacement that is refused since they are too many.
+    pub fn spans_then(&self, start: i32, end: i32, incoming: &Incoming) -> u32
+        requires brought { IsBrought incoming.now }
+        requires full { judged self.now.state 0 (Replace start end incoming.now) ≡ Refused SpansFull }
+        ensures { result ≡ spans_then self.now.state start end incoming.now }
+    {
+        self.spans_behind(place_of(start), place_of(end), incoming)
+    }
+
+    /// How many spans stand after a replacement.
+    fn spans_behind(&self, start: u32, end: u32, incoming: &Incoming) -> u32
+        requires brought { IsBrought incoming.now }
+        requires order { start ≤ end }
+        requires within { end ≤ length self.now.state.units }
+        requires limit { spliced_length (length self.now.state.units) start end (length incoming.now.units) ≤ 1048576 }
+        ensures { result ≡ length (replaced self.now.state start end incoming.now).spans }
+    {
+        let cut = Cut {
+            units: &self.units,
+            brought: incoming.units.as_slice(),
+            start,
+            end,
+            grown: incoming.units.len() as u32,
+            boundary: self.units.len() as u32,
+        };
+        count_spans_then(incoming.spans.as_slice(), &cut, &self.rows) as u32
     }
 
     /// Gives an attached span these places, flags and what, in its place of the order, or attaches a span behind all

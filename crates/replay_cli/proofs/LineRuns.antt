@@ -3,6 +3,7 @@ use Rattle.std.proofs.Common.{◌≡◌, ℕ, ◌+◌, List, [], ◌∷◌, ◌+
 use Rattle.std.specs.List.{concat}
 use Rattle.std.proofs.lemmas.List.{append-nil}
 use Rattle.std.proofs.Math.Seq.{take-append-add}
+use Rattle.edit_model.specs.declared.settings.Settings.{Settings}
 use Rattle.edit_model.specs.State.{State}
 use Rattle.edit_model.specs.declared.commands.Command.{Command}
 use Rattle.edit_model.specs.Printed.{end_block}
@@ -23,14 +24,14 @@ use Rattle.replay_cli.proofs.Known.{with_more-none, with_more-twice, concat-appe
 
 -- ---- one line
 
-pub run-line : (close : ℕ → State → Played) (number : ℕ) (state : State) (line : List ℕ) (lines : List (List ℕ)) (it : Line) → it ≡ line_of line
-    → run_lines close number state (line ∷ lines) ≡ line_run number state it (λ next. run_lines close (number + 1) next lines)
+pub run-line : (settings : Settings) (close : ℕ → State → Played) (number : ℕ) (state : State) (line : List ℕ) (lines : List (List ℕ)) (it : Line) → it ≡ line_of line
+    → run_lines settings close number state (line ∷ lines) ≡ line_run settings number state it (λ next. run_lines settings close (number + 1) next lines)
 unfolding run_lines
-run-line close number state line lines it is = ap (λ l. line_run number state l (λ next. run_lines close (number + 1) next lines)) (sym is)
+run-line settings close number state line lines it is = ap (λ l. line_run settings number state l (λ next. run_lines settings close (number + 1) next lines)) (sym is)
 
-pub run-nothing : (close : ℕ → State → Played) (number : ℕ) (state : State) → run_lines close number state [] ≡ close number state
+pub run-nothing : (settings : Settings) (close : ℕ → State → Played) (number : ℕ) (state : State) → run_lines settings close number state [] ≡ close number state
 unfolding run_lines
-run-nothing close number state = refl
+run-nothing settings close number state = refl
 
 -- nothing was written yet
 pub reached-itself : (whole left : Played) (known : Option (List ℕ)) → whole ≡ left → Reached whole left known known
@@ -118,26 +119,26 @@ reached-twice whole left last old now new first second = record {
 -- ---- a command that was written, or wasn't
 
 -- the run behind a command
-pub command-goes : (number : ℕ) (state : State) (line : List ℕ) (asked : Command) (after : State) (end : LineEnd) (old new : Option (List ℕ)) → command asked ≡ line_of line
-    → CommandGives (command_bytes number state asked) (state_behind state asked) after end old new → LineGives number state line after end old new
-command-goes number state line asked after Next old new is gives = λ close lines. record {
-  pieces = command_bytes number state asked ∷ [];
-  is = run-line close number state line lines (command asked) is
-      ∙ ap (λ next. behind (command_bytes number state asked) (run_lines close (number + 1) next lines)) (sym gives.0);
-  written = gives.1 ∙ ap (with_more old) (sym (append-nil (command_bytes number state asked)));
+pub command-goes : (settings : Settings) (number : ℕ) (state : State) (line : List ℕ) (asked : Command) (after : State) (end : LineEnd) (old new : Option (List ℕ)) → command asked ≡ line_of line
+    → CommandGives (command_bytes settings number state asked) (state_behind settings state asked) after end old new → LineGives settings number state line after end old new
+command-goes settings number state line asked after Next old new is gives = λ close lines. record {
+  pieces = command_bytes settings number state asked ∷ [];
+  is = run-line settings close number state line lines (command asked) is
+      ∙ ap (λ next. behind (command_bytes settings number state asked) (run_lines settings close (number + 1) next lines)) (sym gives.0);
+  written = gives.1 ∙ ap (with_more old) (sym (append-nil (command_bytes settings number state asked)));
 }
-command-goes number state line asked after (Stop status.Done) old new is gives = absurd gives
-command-goes number state line asked after (Stop status.Usage) old new is gives = absurd gives
-command-goes number state line asked after (Stop (status.TraceFault at kind)) old new is gives = absurd gives
-command-goes number state line asked after (Stop (status.SettingsFault kind)) old new is gives = absurd gives
-command-goes number state line asked after (Stop status.ReadFault) old new is gives = absurd gives
-command-goes number state line asked after (Stop status.WriteFault) old new is gives = λ close lines.
-    let bytes = command_bytes number state asked in
-    let rest = run_lines close (number + 1) (state_behind state asked) lines in
+command-goes settings number state line asked after (Stop status.Done) old new is gives = absurd gives
+command-goes settings number state line asked after (Stop status.Usage) old new is gives = absurd gives
+command-goes settings number state line asked after (Stop (status.TraceFault at kind)) old new is gives = absurd gives
+command-goes settings number state line asked after (Stop (status.SettingsFault kind)) old new is gives = absurd gives
+command-goes settings number state line asked after (Stop status.ReadFault) old new is gives = absurd gives
+command-goes settings number state line asked after (Stop status.WriteFault) old new is gives = λ close lines.
+    let bytes = command_bytes settings number state asked in
+    let rest = run_lines settings close (number + 1) (state_behind settings state asked) lines in
     let t = take-before bytes (concat rest.commands ++ rest.last) gives.0 in
-    (t.0, gives.1 ∙ ap (with_more old) (t.1 ∙ ap (take t.0) (sym (append_assoc bytes (concat rest.commands) rest.last) ∙ ap bytes_of (sym (run-line close number state line lines (command asked) is)))))
-command-goes number state line asked after (Stop status.NoMemory) old new is gives = λ close lines. (0, gives ∙ with_more-none old)
-command-goes number state line asked after (Stop status.TraceTooLong) old new is gives = absurd gives
+    (t.0, gives.1 ∙ ap (with_more old) (t.1 ∙ ap (take t.0) (sym (append_assoc bytes (concat rest.commands) rest.last) ∙ ap bytes_of (sym (run-line settings close number state line lines (command asked) is)))))
+command-goes settings number state line asked after (Stop status.NoMemory) old new is gives = λ close lines. (0, gives ∙ with_more-none old)
+command-goes settings number state line asked after (Stop status.TraceTooLong) old new is gives = absurd gives
 
 -- ---- behind the lines
 
@@ -154,22 +155,22 @@ stopped-known known ending = with_more-none known
 
 -- ---- lines without output
 
-pub blank-goes : (number : ℕ) (state : State) (line : List ℕ) (known : Option (List ℕ)) → blank ≡ line_of line → LineGives number state line state Next known known
-blank-goes number state line known is = λ close lines.
-    reached-itself (run_lines close number state (line ∷ lines)) (run_lines close (number + 1) state lines) known (run-line close number state line lines blank is)
+pub blank-goes : (settings : Settings) (number : ℕ) (state : State) (line : List ℕ) (known : Option (List ℕ)) → blank ≡ line_of line → LineGives settings number state line state Next known known
+blank-goes settings number state line known is = λ close lines.
+    reached-itself (run_lines settings close number state (line ∷ lines)) (run_lines settings close (number + 1) state lines) known (run-line settings close number state line lines blank is)
 
-pub faulty-stops : (number : ℕ) (state : State) (line : List ℕ) (known : Option (List ℕ)) (kind : TraceFault) → faulty kind ≡ line_of line
-    → LineGives number state line state (Stop (status.TraceFault number kind)) known known
-faulty-stops number state line known kind is = λ close lines.
-    let e = run-line close number state line lines (faulty kind) is in
+pub faulty-stops : (settings : Settings) (number : ℕ) (state : State) (line : List ℕ) (known : Option (List ℕ)) (kind : TraceFault) → faulty kind ≡ line_of line
+    → LineGives settings number state line state (Stop (status.TraceFault number kind)) known known
+faulty-stops settings number state line known kind is = λ close lines.
+    let e = run-line settings close number state line lines (faulty kind) is in
     (ap (λ played. played.ending) e, with_more-none known ∙ ap (λ played. with_more known (bytes_of played)) (sym e))
 
 -- ---- the end of the trace
 
-reached-end : (whole : Played) (close : ℕ → State → Played) (number : ℕ) (state : State) (lines : List (List ℕ)) (old now : Option (List ℕ)) → lines ≡ []
-    → Reached whole (run_lines close number state lines) old now → Reached whole (close number state) old now
-reached-end whole close number state lines old now none reached =
-    let e = ap (run_lines close number state) none ∙ run-nothing close number state in rw e at reached
+reached-end : (settings : Settings) (whole : Played) (close : ℕ → State → Played) (number : ℕ) (state : State) (lines : List (List ℕ)) (old now : Option (List ℕ)) → lines ≡ []
+    → Reached whole (run_lines settings close number state lines) old now → Reached whole (close number state) old now
+reached-end settings whole close number state lines old now none reached =
+    let e = ap (run_lines settings close number state) none ∙ run-nothing settings close number state in rw e at reached
 
 cut-close : (is_cut : Bool) (trace rest : List ℕ) (number : ℕ) (state : State) → is_cut ≡ true → (is_cut ≡ true → open_line trace ≡ open_line rest)
     → (is_cut ≡ true → open_line rest ≡ rest) → close_of is_cut trace number state ≡ stopped (cut_off rest too_long number)
@@ -181,16 +182,16 @@ whole-close true trace number state cut = absurd (cc)
 whole-close false trace number state cut = refl
 
 -- behind the lines of a trace that was cut off
-pub reached-cut : (whole : Played) (is_cut : Bool) (trace rest : List ℕ) (number : ℕ) (state : State) (old now : Option (List ℕ)) → is_cut ≡ true
+pub reached-cut : (settings : Settings) (whole : Played) (is_cut : Bool) (trace rest : List ℕ) (number : ℕ) (state : State) (old now : Option (List ℕ)) → is_cut ≡ true
     → (is_cut ≡ true → open_line trace ≡ open_line rest) → (is_cut ≡ true → open_line rest ≡ rest) → lines_in is_cut rest ≡ []
-    → Reached whole (run_lines (close_of is_cut trace) number state (lines_in is_cut rest)) old now → Reached whole (stopped (cut_off rest too_long number)) old now
-reached-cut whole is_cut trace rest number state old now cut same tail none reached =
-    let end = reached-end whole (close_of is_cut trace) number state (lines_in is_cut rest) old now none reached in
+    → Reached whole (run_lines settings (close_of is_cut trace) number state (lines_in is_cut rest)) old now → Reached whole (stopped (cut_off rest too_long number)) old now
+reached-cut settings whole is_cut trace rest number state old now cut same tail none reached =
+    let end = reached-end settings whole (close_of is_cut trace) number state (lines_in is_cut rest) old now none reached in
     let e = cut-close is_cut trace rest number state cut same tail in rw e at end
 
 -- behind the lines of a whole trace
-pub reached-whole : (whole : Played) (is_cut : Bool) (trace rest : List ℕ) (number : ℕ) (state : State) (old now : Option (List ℕ)) → is_cut ≡ false → lines_in is_cut rest ≡ []
-    → Reached whole (run_lines (close_of is_cut trace) number state (lines_in is_cut rest)) old now → Reached whole (ended number state) old now
-reached-whole whole is_cut trace rest number state old now cut none reached =
-    let end = reached-end whole (close_of is_cut trace) number state (lines_in is_cut rest) old now none reached in
+pub reached-whole : (settings : Settings) (whole : Played) (is_cut : Bool) (trace rest : List ℕ) (number : ℕ) (state : State) (old now : Option (List ℕ)) → is_cut ≡ false → lines_in is_cut rest ≡ []
+    → Reached whole (run_lines settings (close_of is_cut trace) number state (lines_in is_cut rest)) old now → Reached whole (ended number state) old now
+reached-whole settings whole is_cut trace rest number state old now cut none reached =
+    let end = reached-end settings whole (close_of is_cut trace) number state (lines_in is_cut rest) old now none reached in
     let e = whole-close is_cut trace number state cut in rw e at end

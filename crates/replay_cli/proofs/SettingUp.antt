@@ -171,28 +171,28 @@ leaves-stopped task (Some (Ok it)) trace status.TraceTooLong left known sets = a
 
 -- the settings were read, and the trace was run or checked
 pub leaves-run : (task : Task) (told : Option (Result Settings SettingsFault)) (trace : Option (List ℕ)) (it : Settings) (answer : Status) (left old new : Option (List ℕ))
-    → SetsUp (Ok it) told → IsSet answer → IfSome trace (λ bytes. LeavesTrace task bytes answer left old new) → Leaves task told trace answer left old new
+    → SetsUp (Ok it) told → IsSet answer → IfSome trace (λ bytes. LeavesTrace it task bytes answer left old new) → Leaves task told trace answer left old new
 leaves-run task None trace it answer left old new sets set leaves = tt
 leaves-run task (Some (Err found)) trace it answer left old new sets set leaves = absurd (cc)
 leaves-run task (Some (Ok other)) None it answer left old new sets set leaves = set
-leaves-run task (Some (Ok other)) (Some bytes) it answer left old new sets set leaves = leaves
+leaves-run task (Some (Ok other)) (Some bytes) it answer left old new sets set leaves = let e : other ≡ it = cc in rw e leaves
 
 -- ---- completeness
 
-complete-trace : (task : Task) (bytes : List ℕ) (answer : Status) (left old new : Option (List ℕ)) → (given task bytes).ending ≡ finished → LeavesTrace task bytes answer left old new
+complete-trace : (settings : Settings) (task : Task) (bytes : List ℕ) (answer : Status) (left old new : Option (List ℕ)) → (given settings task bytes).ending ≡ finished → LeavesTrace settings task bytes answer left old new
     → (answer ≡ status.ReadFault → ⊥) → (answer ≡ status.WriteFault → ⊥) → (answer ≡ status.Done) ⊎ (answer ≡ status.NoMemory)
-complete-trace task bytes status.Done left old new ends leaves unread unwritten = inl refl
-complete-trace task bytes status.Usage left old new ends leaves unread unwritten = absurd leaves
-complete-trace task bytes (status.TraceFault line kind) left old new ends leaves unread unwritten = let no = leaves.0 in absurd (cc)
-complete-trace task bytes (status.SettingsFault kind) left old new ends leaves unread unwritten = absurd leaves
-complete-trace task bytes status.ReadFault left old new ends leaves unread unwritten = absurd (unread refl)
-complete-trace task bytes status.WriteFault left old new ends leaves unread unwritten = absurd (unwritten refl)
-complete-trace task bytes status.NoMemory left old new ends leaves unread unwritten = inr refl
-complete-trace task bytes status.TraceTooLong left old new ends leaves unread unwritten = let no = leaves.1.0 in absurd (cc)
+complete-trace settings task bytes status.Done left old new ends leaves unread unwritten = inl refl
+complete-trace settings task bytes status.Usage left old new ends leaves unread unwritten = absurd leaves
+complete-trace settings task bytes (status.TraceFault line kind) left old new ends leaves unread unwritten = let no = leaves.1.0 in absurd (cc)
+complete-trace settings task bytes (status.SettingsFault kind) left old new ends leaves unread unwritten = absurd leaves
+complete-trace settings task bytes status.ReadFault left old new ends leaves unread unwritten = absurd (unread refl)
+complete-trace settings task bytes status.WriteFault left old new ends leaves unread unwritten = absurd (unwritten refl)
+complete-trace settings task bytes status.NoMemory left old new ends leaves unread unwritten = inr refl
+complete-trace settings task bytes status.TraceTooLong left old new ends leaves unread unwritten = let no = leaves.1.0 in absurd (cc)
 
 pub complete : (task : Task) (told : Option (Result Settings SettingsFault)) (trace : Option (List ℕ)) (answer : Status) (left old new : Option (List ℕ)) → IsReady task told trace
     → Leaves task told trace answer left old new → (answer ≡ status.ReadFault → ⊥) → (answer ≡ status.WriteFault → ⊥) → (answer ≡ status.Done) ⊎ (answer ≡ status.NoMemory)
 complete task None trace answer left old new ready leaves unread unwritten = absurd ready
 complete task (Some (Err found)) trace answer left old new ready leaves unread unwritten = absurd ready
 complete task (Some (Ok it)) None answer left old new ready leaves unread unwritten = absurd ready
-complete task (Some (Ok it)) (Some bytes) answer left old new ready leaves unread unwritten = complete-trace task bytes answer left old new ready leaves unread unwritten
+complete task (Some (Ok it)) (Some bytes) answer left old new ready leaves unread unwritten = complete-trace it task bytes answer left old new ready leaves unread unwritten

@@ -1,5 +1,5 @@
 -- What a run asks for, writes and leaves, by its status.
-use Rattle.std.specs.Prelude.{ℕ, ◌≡◌, ◌++◌, List, [], ◌∷◌, map, take, Option, Some, None, if◌then◌else◌, Result, Ok, Err, codes}
+use Rattle.std.specs.Prelude.{ℕ, ◌≡◌, ◌<◌, ◌≤◌, ◌++◌, List, [], ◌∷◌, length, map, take, Option, Some, None, if◌then◌else◌, Result, Ok, Err, codes}
 use Rattle.std.specs.Option.{option_map}
 use Rattle.std.specs.List.{concat}
 use Rattle.std.specs.Str.{bytes_eq}
@@ -92,21 +92,25 @@ Writes played status.WriteFault old new = (count : ℕ) × (new ≡ with_more ol
 Writes played status.NoMemory old new = (count : ℕ) × (new ≡ with_more old (concat (take count played.commands)))
 Writes played status.TraceTooLong old new = (played.ending ≡ too_long) × (new ≡ with_more old (bytes_of played))
 
--- what a trace gives under a task
-abbrev pub given : Task → List ℕ → Played
-given Play trace = play trace
-given Check trace = check trace
+-- what a trace gives under settings and a task
+abbrev pub given : Settings → Task → List ℕ → Played
+given settings Play trace = play settings trace
+given settings Check trace = check trace
+
+-- the trace was taken whole, or more of it than its limit
+abbrev pub Took : List ℕ → Option (List ℕ) → Type 0
+Took trace left = (length trace ≤ TRACE_BYTES → left ≡ Some []) × (TRACE_BYTES < length trace → TookMore TRACE_BYTES trace left)
 
 -- what is left of a trace and was written, by the status, where the settings have a reading
-abbrev pub LeavesTrace : Task → List ℕ → Status → Option (List ℕ) → Option (List ℕ) → Option (List ℕ) → Type 0
-LeavesTrace task trace status.Done left old new = (left ≡ Some []) × Writes (given task trace) status.Done old new
-LeavesTrace task trace status.Usage left old new = ⊥
-LeavesTrace task trace (status.TraceFault line kind) left old new = Writes (given task trace) (status.TraceFault line kind) old new
-LeavesTrace task trace (status.SettingsFault kind) left old new = ⊥
-LeavesTrace task trace status.ReadFault left old new = new ≡ old
-LeavesTrace task trace status.WriteFault left old new = Writes (given task trace) status.WriteFault old new
-LeavesTrace task trace status.NoMemory left old new = Writes (given task trace) status.NoMemory old new
-LeavesTrace task trace status.TraceTooLong left old new = TookMore TRACE_BYTES trace left × Writes (given task trace) status.TraceTooLong old new
+abbrev pub LeavesTrace : Settings → Task → List ℕ → Status → Option (List ℕ) → Option (List ℕ) → Option (List ℕ) → Type 0
+LeavesTrace settings task trace status.Done left old new = (left ≡ Some []) × Writes (given settings task trace) status.Done old new
+LeavesTrace settings task trace status.Usage left old new = ⊥
+LeavesTrace settings task trace (status.TraceFault line kind) left old new = Took trace left × Writes (given settings task trace) (status.TraceFault line kind) old new
+LeavesTrace settings task trace (status.SettingsFault kind) left old new = ⊥
+LeavesTrace settings task trace status.ReadFault left old new = new ≡ old
+LeavesTrace settings task trace status.WriteFault left old new = Took trace left × Writes (given settings task trace) status.WriteFault old new
+LeavesTrace settings task trace status.NoMemory left old new = Writes (given settings task trace) status.NoMemory old new
+LeavesTrace settings task trace status.TraceTooLong left old new = TookMore TRACE_BYTES trace left × Writes (given settings task trace) status.TraceTooLong old new
 
 -- where the settings have a fault, nothing of the trace is read and nothing written
 abbrev pub LeavesUnset : SettingsFault → Status → Option (List ℕ) → Option (List ℕ) → Type 0
@@ -135,7 +139,7 @@ abbrev pub Leaves : Task → Option (Result Settings SettingsFault) → Option (
 Leaves task None trace answer left old new = Unit {0}
 Leaves task (Some (Err found)) trace answer left old new = LeavesUnset found answer old new
 Leaves task (Some (Ok settings)) None answer left old new = IsSet answer
-Leaves task (Some (Ok settings)) (Some trace) answer left old new = LeavesTrace task trace answer left old new
+Leaves task (Some (Ok settings)) (Some trace) answer left old new = LeavesTrace settings task trace answer left old new
 
 -- ---- what the store tells
 
@@ -153,7 +157,7 @@ abbrev pub IsReady : Task → Option (Result Settings SettingsFault) → Option 
 IsReady task None trace = ⊥
 IsReady task (Some (Err found)) trace = ⊥
 IsReady task (Some (Ok settings)) None = ⊥
-IsReady task (Some (Ok settings)) (Some trace) = (given task trace).ending ≡ finished
+IsReady task (Some (Ok settings)) (Some trace) = (given settings task trace).ending ≡ finished
 
 -- the settings have a reading and every line that isn't blank is a command, the trace being within its limit
 abbrev pub IsComplete : Option Order → (List ℕ → Option (List ℕ)) → Type 0

@@ -65,6 +65,6 @@ Settles (Err status.NoMemory) found = Unit {0}
 Settles (Err status.TraceTooLong) found = ⊥
 
 -- what the lines of a trace give under a task, or those of its front where more was cut off
-abbrev pub given_lines : Task → Bool → List ℕ → Played
-given_lines Play is_cut bytes = run_lines (close_of is_cut bytes) 1 empty_state (lines_in is_cut bytes)
-given_lines Check is_cut bytes = check_lines (close_check is_cut bytes) 1 0 (lines_in is_cut bytes)
+abbrev pub given_lines : Settings → Task → Bool → List ℕ → Played
+given_lines settings Play is_cut bytes = run_lines settings (close_of is_cut bytes) 1 empty_state (lines_in is_cut bytes)
+given_lines settings Check is_cut bytes = check_lines (close_check is_cut bytes) 1 0 (lines_in is_cut bytes)

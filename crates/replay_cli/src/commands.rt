@@ -1,8 +1,8 @@
 //! Commands, run over a text, and what they print.
+#![tactic(auto, using(crate::proofs::Appending::appending))]
 
-ghost use Rattle.std.specs.Prelude.{◌≡◌, ◌≤◌, ◌<◌, ◌^◌, ◌++◌, [], false, length, IfOk, OnOk};
+ghost use Rattle.std.specs.Prelude.{◌≡◌, ◌≤◌, ◌<◌, ◌^◌, ◌⊎◌, ◌++◌, length, IfOk, OnOk, OnErr};
 ghost use Rattle.std.specs.List.{flat_map};
-ghost use Rattle.edit_base.specs.declared.rows.Incoming.{Incoming};
 ghost use Rattle.edit_base.specs.declared.rows.Pick.TheVariants.{All};
 ghost use Rattle.edit_base.specs.declared.verdicts.Verdict.TheVariants.{Refused};
 ghost use Rattle.edit_base.specs.declared.verdicts.Refusal.TheVariants.{SpansFull};
@@ -11,18 +11,23 @@ ghost use Rattle.edit_model.specs.declared.steps.Step.TheVariants.{Replace, Set,
 ghost use Rattle.edit_model.specs.State.{State, place};
 ghost use Rattle.edit_model.specs.Replaced.{spliced_length};
 ghost use Rattle.edit_model.specs.Over.{over, next_edge};
-ghost use Rattle.edit_model.specs.Verdicts.{judged, judged_range};
+ghost use Rattle.edit_model.specs.Verdicts.{judged, judged_range, spans_then};
+ghost use Rattle.edit_model.specs.Brought.{IsBrought};
+ghost use Rattle.edit_model.specs.Filtered.{filtered_step};
 ghost use Rattle.edit_model.specs.Changed.{state_after};
 ghost use Rattle.replace_engine.specs.Rows.{spans_in};
 ghost use Rattle.edit_model.specs.Log.{length_of, span_count_of, verdict_number, range_logged, entry_of};
 ghost use Rattle.edit_model.specs.Reading.{IsFitting};
-ghost use Rattle.edit_model.specs.Printed.{header_line, span_line, found_lines, edge_line, reply_line, end_block};
-ghost use Rattle.edit_model.specs.Output.{name_of, answer_lines, command_bytes, lines_of, edit_line, state_behind};
+ghost use Rattle.edit_model.specs.Printed.{entry_line, span_line, found_lines, edge_line, reply_line, end_block};
+ghost use Rattle.edit_model.specs.Output.{name_of, answer_lines, command_bytes, edit_logged, lines_of, state_behind};
+ghost use Rattle.replay_cli.specs.Appended.{Extends};
 
 use crate::printing::{print_entry, print_header, print_reply, print_span, print_units};
 use edit_base::{Incoming, NoMemory, Pick, Refusal, SpanRow, Steps, Verdict, What};
-use edit_model::{Command, LogEntry, Logged, Reply};
+use edit_model::{Command, Filter, LogEntry, Logged, Reply, Settings};
+use input_filters::filter_all;
 use replace_engine::SpannedText;
+use std::alloc::Global;
 use std::sync::ledger::Ledger;
 
 /// Room that every command reuses: for its bytes, and for the rows that a query finds.
@@ -32,8 +37,11 @@ pub struct Room {
     pub rows: Vec<SpanRow>,
 }
 
-/// Runs a command: its bytes come behind what is in `room.out`, and the text is the one behind it.
+/// Runs a command under these settings: its bytes come behind what is in `room.out`, and the text is the one behind it.
+/// Without memory what was in `room.out` is still its prefix, and the text is the one before the command or behind it.
 pub fn run_command<L: Ledger>(
+    alloc: Global,
+    settings: &Settings,
     number: u32,
     command: &Command,
     text: &mut SpannedText,
@@ -41,11 +49,13 @@ pub fn run_command<L: Ledger>(
     steps: &mut Steps<L>,
 ) -> Result<(), NoMemory>
     requires { IsFitting command.now }
-    ensures bytes { OnOk result (room.new.out.items ≡ room.old.out.items ++ command_bytes number text.old.state command.now) }
-    ensures state { OnOk result (text.new.state ≡ state_behind text.old.state command.now) }
+    ensures bytes { OnOk result (room.new.out.items ≡ room.old.out.items ++ command_bytes settings.now number text.old.state command.now) }
+    ensures state { OnOk result (text.new.state ≡ state_behind settings.now text.old.state command.now) }
+    ensures err { OnErr result (Extends room.old.out.items room.new.out.items) }
+    ensures kept { OnErr result ((text.new.state ≡ text.old.state) ⊎ (text.new.state ≡ state_behind settings.now text.old.state command.now)) }
 {
     print_header(number, operation(command), &mut room.out)?;
-    print_command(command, text, room, steps)
+    print_command(alloc, settings, command, text, room, steps)
 }
 
 // The operation's name.
@@ -62,23 +72,39 @@ fn operation(command: &Command) -> &'static str
 }
 
 // Runs a command and prints what stands behind its header.
-#[tactic(auto, unfolding(edit_model::specs::Output::lines_of, edit_model::specs::Output::state_behind))]
+#[tactic(auto, using(crate::proofs::Appending::appending), unfolding(edit_model::specs::Output::lines_of, edit_model::specs::Output::state_behind))]
 fn print_command<L: Ledger>(
+    alloc: Global,
+    settings: &Settings,
     command: &Command,
     text: &mut SpannedText,
     room: &mut Room,
     steps: &mut Steps<L>,
 ) -> Result<(), NoMemory>
     requires { IsFitting command.now }
-    ensures bytes { OnOk result (room.new.out.items ≡ room.old.out.items ++ lines_of text.old.state command.now) }
-    ensures state { OnOk result (text.new.state ≡ state_behind text.old.state command.now) }
+    ensures bytes { OnOk result (room.new.out.items ≡ room.old.out.items ++ lines_of settings.now text.old.state command.now) }
+    ensures state { OnOk result (text.new.state ≡ state_behind settings.now text.old.state command.now) }
+    ensures err { OnErr result (Extends room.old.out.items room.new.out.items) }
+    ensures kept { OnErr result ((text.new.state ≡ text.old.state) ⊎ (text.new.state ≡ state_behind settings.now text.old.state command.now)) }
 {
     match command {
         Command::Replace {
             start,
             end,
             incoming,
-        } => print_replace(*start, *end, incoming, text, &mut room.out, steps),
+        } => {
+            let filters = settings.filters.as_slice();
+            print_replace(
+                alloc,
+                filters,
+                *start,
+                *end,
+                incoming,
+                text,
+                &mut room.out,
+                steps,
+            )
+        }
         Command::SetSpan {
             id,
             start,
@@ -98,6 +124,8 @@ fn print_command<L: Ledger>(
 
 // Replaces, and prints what is logged of it.
 fn print_replace<L: Ledger>(
+    alloc: Global,
+    filters: &[Filter],
     start: i32,
     end: i32,
     incoming: &Incoming,
@@ -105,44 +133,92 @@ fn print_replace<L: Ledger>(
     out: &mut Vec<u8>,
     steps: &mut Steps<L>,
 ) -> Result<(), NoMemory>
-    requires units { length incoming.now.units ≤ 1073741824 }
-    requires spans { incoming.now.spans ≡ [] }
-    requires composing { incoming.now.composing ≡ false }
-    ensures bytes { OnOk result (out.new.items ≡ out.old.items ++ edit_line text.old.state (Replace start end incoming.now)) }
-    ensures state { OnOk result (text.new.state ≡ state_after text.old.state 0 (Replace start end incoming.now)) }
+    requires { IsBrought incoming.now }
+    ensures bytes { OnOk result (out.new.items ≡ out.old.items ++ entry_line (entry_of 0 (Replace start end incoming.now)
+        (edit_logged text.old.state (filtered_step filters.now text.old.state (Replace start end incoming.now))))) }
+    ensures state { OnOk result (text.new.state ≡ state_after text.old.state 0 (filtered_step filters.now text.old.state (Replace start end incoming.now))) }
+    ensures err { OnErr result (Extends out.old.items out.new.items) }
+    ensures kept { OnErr result ((text.new.state ≡ text.old.state)
+        ⊎ (text.new.state ≡ state_after text.old.state 0 (filtered_step filters.now text.old.state (Replace start end incoming.now)))) }
 {
-    let entry = replace(start, end, incoming, text, steps)?;
+    let logged = replace(alloc, filters, start, end, incoming, text, steps)?;
+    let entry = LogEntry::Replace {
+        depth: 0,
+        start: i64::from(start),
+        end: i64::from(end),
+        units: incoming.units.len() as u32,
+        logged,
+    };
     print_entry(&entry, out)
 }
 
-// Replaces, and answers what is logged of it.
+// Replaces by what the filters make of the text, where the places lie in the text, and answers what is logged of it.
 fn replace<L: Ledger>(
+    alloc: Global,
+    filters: &[Filter],
     start: i32,
     end: i32,
     incoming: &Incoming,
     text: &mut SpannedText,
     steps: &mut Steps<L>,
-) -> Result<LogEntry, NoMemory>
-    requires units { length incoming.now.units ≤ 1073741824 }
-    requires spans { incoming.now.spans ≡ [] }
-    requires composing { incoming.now.composing ≡ false }
-    ensures entry { IfOk result (λ entry. entry ≡ entry_of text.old.state 0 (Replace start end incoming.now)
-        (judged text.old.state 0 (Replace start end incoming.now))) }
-    ensures state { OnOk result (text.new.state ≡ state_after text.old.state 0 (Replace start end incoming.now)) }
+) -> Result<Logged, NoMemory>
+    requires { IsBrought incoming.now }
+    ensures logged { IfOk result (λ logged. logged ≡ edit_logged text.old.state (filtered_step filters.now text.old.state (Replace start end incoming.now))) }
+    ensures state { OnOk result (text.new.state ≡ state_after text.old.state 0 (filtered_step filters.now text.old.state (Replace start end incoming.now))) }
+    ensures err { OnErr result (text.new.state ≡ text.old.state) }
 {
     let length = text.len();
-    let spans = text.span_count();
+    let Verdict::Done = judge_range(start, end, text) else {
+        return replace_filtered(start, end, incoming, text, steps);
+    };
+    let filtered = filter_all(
+        alloc,
+        filters,
+        incoming,
+        length,
+        place_of(start),
+        place_of(end),
+    )?;
+    replace_filtered(start, end, &filtered, text, steps)
+}
+
+// Replaces, and answers what is logged of it.
+fn replace_filtered<L: Ledger>(
+    start: i32,
+    end: i32,
+    incoming: &Incoming,
+    text: &mut SpannedText,
+    steps: &mut Steps<L>,
+) -> Result<Logged, NoMemory>
+    requires { IsBrought incoming.now }
+    ensures logged { IfOk result (λ logged. logged ≡ edit_logged text.old.state (Replace start end incoming.now)) }
+    ensures state { OnOk result (text.new.state ≡ state_after text.old.state 0 (Replace start end incoming.now)) }
+    ensures err { OnErr result (text.new.state ≡ text.old.state) }
+{
+    let length = text.len();
     let verdict = text.replace(start, end, incoming, steps)?;
-    let units = incoming.units.len() as u32;
-    let after = length_after(length, start, end, units);
+    let after = length_after(length, start, end, incoming.units.len() as u32);
+    let spans = spans_then(verdict, start, end, incoming, text);
     let number = number_behind(verdict, length, after, spans);
-    Ok(LogEntry::Replace {
-        depth: 0,
-        start: i64::from(start),
-        end: i64::from(end),
-        units,
-        logged: Logged { verdict, number },
-    })
+    Ok(Logged { verdict, number })
+}
+
+// How many spans would stand, where a replacement is refused since they are too many.
+fn spans_then(
+    verdict: Verdict,
+    start: i32,
+    end: i32,
+    incoming: &Incoming,
+    text: &SpannedText,
+) -> u32
+    requires brought { IsBrought incoming.now }
+    requires full { verdict ≡ Refused SpansFull → judged text.now.state 0 (Replace start end incoming.now) ≡ Refused SpansFull }
+    ensures { verdict ≡ Refused SpansFull → result ≡ spans_then text.now.state start end incoming.now }
+{
+    match verdict {
+        Verdict::Refused(Refusal::SpansFull) => text.spans_then(start, end, incoming),
+        _ => 0,
+    }
 }
 
 // Sets a span, and prints what is logged of it.
@@ -156,10 +232,21 @@ fn print_set<L: Ledger>(
     out: &mut Vec<u8>,
     steps: &mut Steps<L>,
 ) -> Result<(), NoMemory>
-    ensures bytes { OnOk result (out.new.items ≡ out.old.items ++ edit_line text.old.state (Set id start end flags what)) }
+    ensures bytes { OnOk result (out.new.items
+        ≡ out.old.items ++ entry_line (entry_of 0 (Set id start end flags what) (edit_logged text.old.state (Set id start end flags what)))) }
     ensures state { OnOk result (text.new.state ≡ state_after text.old.state 0 (Set id start end flags what)) }
+    ensures err { OnErr result (Extends out.old.items out.new.items) }
+    ensures kept { OnErr result ((text.new.state ≡ text.old.state) ⊎ (text.new.state ≡ state_after text.old.state 0 (Set id start end flags what))) }
 {
-    let entry = set_span(id, start, end, flags, what, text, steps)?;
+    let logged = set_span(id, start, end, flags, what, text, steps)?;
+    let entry = LogEntry::Set {
+        depth: 0,
+        id,
+        start: i64::from(start),
+        end: i64::from(end),
+        flags,
+        logged,
+    };
     print_entry(&entry, out)
 }
 
@@ -172,49 +259,45 @@ fn set_span<L: Ledger>(
     what: What,
     text: &mut SpannedText,
     steps: &mut Steps<L>,
-) -> Result<LogEntry, NoMemory>
-    ensures entry { IfOk result (λ entry. entry ≡ entry_of text.old.state 0 (Set id start end flags what)
-        (judged text.old.state 0 (Set id start end flags what))) }
+) -> Result<Logged, NoMemory>
+    ensures logged { IfOk result (λ logged. logged ≡ edit_logged text.old.state (Set id start end flags what)) }
     ensures state { OnOk result (text.new.state ≡ state_after text.old.state 0 (Set id start end flags what)) }
+    ensures err { OnErr result (text.new.state ≡ text.old.state) }
 {
     let length = text.len();
     let spans = text.span_count();
     let verdict = text.set_span(id, start, end, flags, what, 0, steps)?;
     // Where too many spans would stand, the set would have added one.
     let number = number_behind(verdict, length, length, spans + 1);
-    Ok(LogEntry::Set {
-        depth: 0,
-        id,
-        start: i64::from(start),
-        end: i64::from(end),
-        flags,
-        logged: Logged { verdict, number },
-    })
+    Ok(Logged { verdict, number })
 }
 
 // Removes a span, and prints what is logged of it.
 fn print_remove(id: u32, text: &mut SpannedText, out: &mut Vec<u8>) -> Result<(), NoMemory>
-    ensures bytes { OnOk result (out.new.items ≡ out.old.items ++ edit_line text.old.state (Remove id)) }
+    ensures bytes { OnOk result (out.new.items ≡ out.old.items ++ entry_line (entry_of 0 (Remove id) (edit_logged text.old.state (Remove id)))) }
     ensures state { OnOk result (text.new.state ≡ state_after text.old.state 0 (Remove id)) }
+    ensures err { OnErr result (Extends out.old.items out.new.items) }
+    ensures kept { OnErr result ((text.new.state ≡ text.old.state) ⊎ (text.new.state ≡ state_after text.old.state 0 (Remove id))) }
 {
-    let entry = remove_span(id, text);
+    let logged = remove_span(id, text);
+    let entry = LogEntry::Remove {
+        depth: 0,
+        id,
+        logged,
+    };
     print_entry(&entry, out)
 }
 
 // Removes a span, and answers what is logged of it.
-fn remove_span(id: u32, text: &mut SpannedText) -> LogEntry
-    ensures entry { result ≡ entry_of text.old.state 0 (Remove id) (judged text.old.state 0 (Remove id)) }
+fn remove_span(id: u32, text: &mut SpannedText) -> Logged
+    ensures logged { result ≡ edit_logged text.old.state (Remove id) }
     ensures state { text.new.state ≡ state_after text.old.state 0 (Remove id) }
 {
     let length = text.len();
     let spans = text.span_count();
     let verdict = text.remove_span(id);
     let number = number_behind(verdict, length, length, spans);
-    LogEntry::Remove {
-        depth: 0,
-        id,
-        logged: Logged { verdict, number },
-    }
+    Logged { verdict, number }
 }
 
 // The number that is printed behind an edit's verdict: of the present length, the length that would stand, and the
@@ -274,8 +357,9 @@ fn print_spans_over<L: Ledger>(
     room: &mut Room,
     steps: &mut Steps<L>,
 ) -> Result<(), NoMemory>
-    ensures { OnOk result (room.new.out.items ≡ room.old.out.items ++ answer_lines text.now.state (judged_range text.now.state start end)
+    ensures ok { OnOk result (room.new.out.items ≡ room.old.out.items ++ answer_lines text.now.state (judged_range text.now.state start end)
         (found_lines (over (place start) (place end) All text.now.state.spans))) }
+    ensures err { OnErr result (Extends room.old.out.items room.new.out.items) }
 {
     let verdict = judge_range(start, end, text);
     let Verdict::Done = verdict else {
@@ -298,8 +382,9 @@ fn print_next_edge(
     text: &SpannedText,
     out: &mut Vec<u8>,
 ) -> Result<(), NoMemory>
-    ensures { OnOk result (out.new.items ≡ out.old.items ++ answer_lines text.now.state (judged_range text.now.state start limit)
+    ensures ok { OnOk result (out.new.items ≡ out.old.items ++ answer_lines text.now.state (judged_range text.now.state start limit)
         (edge_line (next_edge (place start) (place limit) text.now.state.spans))) }
+    ensures err { OnErr result (Extends out.old.items out.new.items) }
 {
     let verdict = judge_range(start, limit, text);
     let Verdict::Done = verdict else {
@@ -331,7 +416,8 @@ fn judge_range(start: i32, end: i32, text: &SpannedText) -> Verdict
 
 // Prints the refusal of a query's range.
 fn print_refused(verdict: Verdict, text: &SpannedText, out: &mut Vec<u8>) -> Result<(), NoMemory>
-    ensures { OnOk result (out.new.items ≡ out.old.items ++ reply_line (range_logged text.now.state verdict)) }
+    ensures ok { OnOk result (out.new.items ≡ out.old.items ++ reply_line (range_logged text.now.state verdict)) }
+    ensures err { OnErr result (Extends out.old.items out.new.items) }
 {
     let number = match verdict {
         Verdict::Refused(_) => text.len(),
@@ -343,7 +429,8 @@ fn print_refused(verdict: Verdict, text: &SpannedText, out: &mut Vec<u8>) -> Res
 // Prints how many rows there are, and a line for each.
 fn print_found(rows: &[SpanRow], out: &mut Vec<u8>) -> Result<(), NoMemory>
     requires { length rows.now < 2 ^ 32 }
-    ensures { OnOk result (out.new.items ≡ out.old.items ++ found_lines (spans_in rows.now)) }
+    ensures ok { OnOk result (out.new.items ≡ out.old.items ++ found_lines (spans_in rows.now)) }
+    ensures err { OnErr result (Extends out.old.items out.new.items) }
 {
     print_reply(&Reply::Found(rows.len() as u32), out)?;
     print_rows(rows, out)
@@ -351,7 +438,8 @@ fn print_found(rows: &[SpanRow], out: &mut Vec<u8>) -> Result<(), NoMemory>
 
 // Prints a line for each row.
 fn print_rows(rows: &[SpanRow], out: &mut Vec<u8>) -> Result<(), NoMemory>
-    ensures { OnOk result (out.new.items ≡ out.old.items ++ flat_map span_line (spans_in rows.now)) }
+    ensures ok { OnOk result (out.new.items ≡ out.old.items ++ flat_map span_line (spans_in rows.now)) }
+    ensures err { OnErr result (Extends out.old.items out.new.items) }
 {
     for row in rows {
         print_span(row, out)?;
@@ -361,9 +449,10 @@ fn print_rows(rows: &[SpanRow], out: &mut Vec<u8>) -> Result<(), NoMemory>
 
 // ---- the end block
 
-/// Appends the end block of a text.
+/// Appends the end block of a text. Without memory what was in `out` is still its prefix.
 pub fn print_end(text: &SpannedText, out: &mut Vec<u8>) -> Result<(), NoMemory>
-    ensures { OnOk result (out.new.items ≡ out.old.items ++ end_block text.now.state) }
+    ensures ok { OnOk result (out.new.items ≡ out.old.items ++ end_block text.now.state) }
+    ensures err { OnErr result (Extends out.old.items out.new.items) }
 {
     out.extend_from_slice(b"end\n")?;
     let (left, right) = text.halves();
@@ -373,7 +462,8 @@ pub fn print_end(text: &SpannedText, out: &mut Vec<u8>) -> Result<(), NoMemory>
 
 // Appends a line for each span, in order of attachment.
 fn print_spans(text: &SpannedText, out: &mut Vec<u8>) -> Result<(), NoMemory>
-    ensures { OnOk result (out.new.items ≡ out.old.items ++ flat_map span_line text.now.state.spans) }
+    ensures ok { OnOk result (out.new.items ≡ out.old.items ++ flat_map span_line text.now.state.spans) }
+    ensures err { OnErr result (Extends out.old.items out.new.items) }
 {
     for at in 0..text.span_count() {
         print_span(&text.span_at(at), out)?;

@@ -12,7 +12,7 @@ use crate::commands::{Room, print_end, run_command};
 use crate::lines::{TraceLine, next_line, read_line};
 use crate::status::Status;
 use edit_base::{Limits, NoMemory, Steps};
-use edit_model::{Command, TraceFault};
+use edit_model::{Command, Settings, TraceFault};
 use replace_engine::SpannedText;
 use replay_io::{Sink, write_all_of};
 use std::alloc::Global;
@@ -27,10 +27,11 @@ pub enum LineEnd {
     Stop(Status),
 }
 
-/// Runs the lines of a trace over a text, or those of its first bytes where more was cut off. The output of each command
+/// Runs the lines of a trace over a text under these settings, or those of its first bytes where more was cut off. The output of each command
 /// is written as soon as it is run, and the end block behind the last one.
 pub fn play_lines<K: Sink, L: Ledger>(
     alloc: Global,
+    settings: &Settings,
     trace: &[u8],
     is_cut: bool,
     text: &mut SpannedText,
@@ -38,7 +39,7 @@ pub fn play_lines<K: Sink, L: Ledger>(
     steps: &mut Steps<L>,
 ) -> Status
     requires { length trace.now ≤ 268435456 }
-    ensures writes { Writes (run_lines (close_of is_cut trace.now) 1 text.old.state (lines_in is_cut trace.now)) result
+    ensures writes { Writes (run_lines settings.now (close_of is_cut trace.now) 1 text.old.state (lines_in is_cut trace.now)) result
         (K.written sink.old) (K.written sink.new) }
     ensures whole { result ≡ Status.Done → is_cut ≡ false }
     ensures cut { result ≡ Status.TraceTooLong → is_cut ≡ true }
@@ -52,7 +53,7 @@ pub fn play_lines<K: Sink, L: Ledger>(
     let mut rest = trace;
     let mut number = 1u32;
     while let Some((line, others)) = next_line(rest, is_cut) {
-        match run_line(alloc, number, line, text, &mut room, sink, steps) {
+        match run_line(alloc, settings, number, line, text, &mut room, sink, steps) {
             LineEnd::Next => (),
             LineEnd::Stop(status) => return status,
         }
@@ -71,6 +72,7 @@ pub fn stop_at(number: u32, tail: &[u8]) -> Status
     ensures stops { (known : Option (List ℕ)) → Writes (stopped (cut_off tail.now too_long number)) result known known }
     ensures undone { result ≢ Status.Done }
     ensures unfailed { result ≢ Status.WriteFault }
+    ensures remembered { result ≢ Status.NoMemory }
 {
     if tail.len() > Limits::LINE_BYTES as usize {
         Status::TraceFault {
@@ -85,6 +87,7 @@ pub fn stop_at(number: u32, tail: &[u8]) -> Status
 /// Runs one line.
 pub fn run_line<K: Sink, L: Ledger>(
     alloc: Global,
+    settings: &Settings,
     number: u32,
     line: &[u8],
     text: &mut SpannedText,
@@ -92,7 +95,7 @@ pub fn run_line<K: Sink, L: Ledger>(
     sink: &mut K,
     steps: &mut Steps<L>,
 ) -> LineEnd
-    ensures gives { LineGives number text.old.state line.now text.new.state result (K.written sink.old) (K.written sink.new) }
+    ensures gives { LineGives settings.now number text.old.state line.now text.new.state result (K.written sink.old) (K.written sink.new) }
     ensures undone { result ≢ LineEnd.Stop Status.Done }
     ensures uncut { result ≢ LineEnd.Stop Status.TraceTooLong }
     ensures failed { result ≡ LineEnd.Stop Status.WriteFault → Rose (K.faults sink.old) (K.faults sink.new) }
@@ -102,12 +105,16 @@ pub fn run_line<K: Sink, L: Ledger>(
         Err(NoMemory) => LineEnd::Stop(Status::NoMemory),
         Ok(TraceLine::Blank) => LineEnd::Next,
         Ok(TraceLine::Faulty(kind)) => LineEnd::Stop(Status::TraceFault { line: number, kind }),
-        Ok(TraceLine::Command(command)) => write_command(number, &command, text, room, sink, steps),
+        Ok(TraceLine::Command(command)) => {
+            write_command(alloc, settings, number, &command, text, room, sink, steps)
+        }
     }
 }
 
 // Runs a command and writes its output.
 fn write_command<K: Sink, L: Ledger>(
+    alloc: Global,
+    settings: &Settings,
     number: u32,
     command: &Command,
     text: &mut SpannedText,
@@ -116,14 +123,15 @@ fn write_command<K: Sink, L: Ledger>(
     steps: &mut Steps<L>,
 ) -> LineEnd
     requires { IsFitting command.now }
-    ensures gives { CommandGives (command_bytes number text.old.state command.now) (state_behind text.old.state command.now) text.new.state result (K.written sink.old) (K.written sink.new) }
+    ensures gives { CommandGives (command_bytes settings.now number text.old.state command.now) (state_behind settings.now text.old.state command.now)
+        text.new.state result (K.written sink.old) (K.written sink.new) }
     ensures undone { result ≢ LineEnd.Stop Status.Done }
     ensures uncut { result ≢ LineEnd.Stop Status.TraceTooLong }
     ensures failed { result ≡ LineEnd.Stop Status.WriteFault → Rose (K.faults sink.old) (K.faults sink.new) }
     ensures counts { K.faults sink.old ≤ K.faults sink.new }
 {
     room.out.clear();
-    match run_command(number, command, text, room, steps) {
+    match run_command(alloc, settings, number, command, text, room, steps) {
         Err(NoMemory) => LineEnd::Stop(Status::NoMemory),
         Ok(()) => match write_all_of(sink, room.out.as_slice()) {
             Err(_) => LineEnd::Stop(Status::WriteFault),

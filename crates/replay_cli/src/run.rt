@@ -21,7 +21,7 @@ use std::marker::Brand;
 use std::sync::ledger::{Blank, Ledger};
 
 /// Runs the program on its words, its own name not among them. `play SETTINGS TRACE` reads the settings and the trace
-/// of these names from the store, runs the trace over an empty text and writes what each command prints, and the text
+/// of these names from the store, runs the trace over an empty text under the settings and writes what each command prints, and the text
 /// and its spans at the end. `check SETTINGS TRACE` reads the trace alone and writes how many commands it has.
 pub fn run<S: Store, K: Sink>(
     alloc: Global,
@@ -79,7 +79,7 @@ fn run_request<S: Store, K: Sink>(
 {
     match set_up(alloc, settings, store) {
         Err(status) => status,
-        Ok(_settings) => run_trace(alloc, task, trace, store, sink),
+        Ok(settings) => run_trace(alloc, &settings, task, trace, store, sink),
     }
 }
 
@@ -96,7 +96,7 @@ fn set_up<S: Store>(
     ensures counts { S.faults store.old ≤ S.faults store.new }
 {
     match settings {
-        None => match built_in() {
+        None => match built_in(alloc) {
             Ok(settings) => Ok(settings),
             Err(NoMemory) => Err(Status::NoMemory),
         },
@@ -139,13 +139,14 @@ fn settings_of(alloc: Global, bytes: &[u8]) -> Result<Settings, Status>
 // Reads the trace, whole or up to its limit, and runs or checks it.
 fn run_trace<S: Store, K: Sink>(
     alloc: Global,
+    settings: &Settings,
     task: Task,
     trace: &str,
     store: &mut S,
     sink: &mut K,
 ) -> Status
     ensures leaves { IfSome (S.stands store.old trace.now)
-        (λ bytes. LeavesTrace task bytes result (S.left store.new) (K.written sink.old) (K.written sink.new)) }
+        (λ bytes. LeavesTrace settings.now task bytes result (S.left store.new) (K.written sink.old) (K.written sink.new)) }
     ensures set { IsSet result }
     ensures read_fault { result ≡ Status.ReadFault → Rose (S.faults store.old) (S.faults store.new) }
     ensures unread { result ≡ Status.ReadFault → K.written sink.new ≡ K.written sink.old }
@@ -155,23 +156,32 @@ fn run_trace<S: Store, K: Sink>(
 {
     let mut bytes = Vec::new(alloc);
     match read_all(store, trace, Limits::TRACE_BYTES, &mut bytes) {
-        Ok(ReadEnd::Whole) => run_bytes(alloc, task, bytes.as_slice(), false, sink),
-        Ok(ReadEnd::Over) => run_bytes(alloc, task, bytes.as_slice(), true, sink),
+        Ok(ReadEnd::Whole) => run_bytes(alloc, settings, task, bytes.as_slice(), false, sink),
+        Ok(ReadEnd::Over) => run_bytes(alloc, settings, task, bytes.as_slice(), true, sink),
         Err(ReadFault::Failed) => Status::ReadFault,
         Err(ReadFault::NoMemory) => Status::NoMemory,
     }
 }
 
 // Runs or checks a trace, or the front of one that was cut off.
-fn run_bytes<K: Sink>(alloc: Global, task: Task, bytes: &[u8], is_cut: bool, sink: &mut K) -> Status
+fn run_bytes<K: Sink>(
+    alloc: Global,
+    settings: &Settings,
+    task: Task,
+    bytes: &[u8],
+    is_cut: bool,
+    sink: &mut K,
+) -> Status
     requires { length bytes.now ≤ 268435456 }
-    ensures writes { Writes (given_lines task is_cut bytes.now) result (K.written sink.old) (K.written sink.new) }
+    ensures writes { Writes (given_lines settings.now task is_cut bytes.now) result (K.written sink.old) (K.written sink.new) }
     ensures whole { result ≡ Status.Done → is_cut ≡ false }
     ensures cut { result ≡ Status.TraceTooLong → is_cut ≡ true }
     ensures failed { result ≡ Status.WriteFault → Rose (K.faults sink.old) (K.faults sink.new) }
 {
     match task {
-        Task::Play => play_counted::<K, Brand>(alloc, bytes, is_cut, sink, Blank::new(1)),
+        Task::Play => {
+            play_counted::<K, Brand>(alloc, settings, bytes, is_cut, sink, Blank::new(1))
+        }
         Task::Check => check_trace(alloc, bytes, is_cut, sink),
     }
 }
@@ -179,6 +189,7 @@ fn run_bytes<K: Sink>(alloc: Global, task: Task, bytes: &[u8], is_cut: bool, sin
 // Runs a trace over an empty text, with a counter of steps.
 fn play_counted<K: Sink, L: Ledger>(
     alloc: Global,
+    settings: &Settings,
     bytes: &[u8],
     is_cut: bool,
     sink: &mut K,
@@ -188,7 +199,7 @@ fn play_counted<K: Sink, L: Ledger>(
     requires name { blank.name ≡ L.name }
     requires parts { blank.parts ≡ L.parts }
     requires some { 0 < blank.parts }
-    ensures writes { Writes (given_lines Task.Play is_cut bytes.now) result (K.written sink.old) (K.written sink.new) }
+    ensures writes { Writes (given_lines settings.now Task.Play is_cut bytes.now) result (K.written sink.old) (K.written sink.new) }
     ensures whole { result ≡ Status.Done → is_cut ≡ false }
     ensures cut { result ≡ Status.TraceTooLong → is_cut ≡ true }
     ensures failed { result ≡ Status.WriteFault → Rose (K.faults sink.old) (K.faults sink.new) }
@@ -196,6 +207,6 @@ fn play_counted<K: Sink, L: Ledger>(
     let mut steps = Steps::<L>::start(blank);
     match SpannedText::new(alloc) {
         Err(NoMemory) => Status::NoMemory,
-        Ok(mut text) => play_lines(alloc, bytes, is_cut, &mut text, sink, &mut steps),
+        Ok(mut text) => { play_lines(alloc, settings, bytes, is_cut, &mut text, sink, &mut steps) }
     }
 }

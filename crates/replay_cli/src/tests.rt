@@ -100,13 +100,67 @@ const SPANS: [(&str, &str); 7] = [
     ),
 ];
 
+// Settings, traces whose text goes through filters or brings spans, and lines that stand in their output.
+const FILTERED: [(&str, &str, &str); 6] = [
+    // A length filter cuts no pair.
+    (
+        "filter = [{ kind = \"length\", max = 3 }]",
+        r#"{"op":"replace","start":0,"end":0,"text":"ab"}
+{"op":"replace","start":2,"end":2,"text":"\ud83d\ude00"}"#,
+        "> 2 replace\nedit 0 replace 2 2 2 nochange\nend\ntext 2 \"ab\"\n",
+    ),
+    // Spans follow their text through a filter, and one that is empty then is skipped.
+    (
+        "[[filter]]\nkind = \"no-newline\"\n",
+        r#"{"op":"replace","start":0,"end":0,"text":"a\nb","spans":["7 0 3 17 tag 1","8 1 2 33 tag 2"]}"#,
+        "> 1 replace\nedit 0 replace 0 0 3 done\nend\ntext 2 \"ab\"\nspan 7 0 2 17 tag 1\n",
+    ),
+    // Each filter sees what the one before it left.
+    (
+        "filter = [{ kind = \"upper\" }, { kind = \"allow\", ranges = [[65, 90]] }]",
+        r#"{"op":"replace","start":0,"end":0,"text":"a1b"}"#,
+        "end\ntext 2 \"AB\"\n",
+    ),
+    // What a replacement takes away is room for a length filter, and a refused one counts its units as given.
+    (
+        "filter = [{ kind = \"no-newline\" }, { kind = \"length\", max = 4 }]",
+        r#"{"op":"replace","start":0,"end":0,"text":"abc"}
+{"op":"replace","start":1,"end":3,"text":"\nxyz\nw","spans":["9 1 4 34 face 2"]}
+{"op":"replace","start":4,"end":3,"text":"\nq"}"#,
+        "> 2 replace\nedit 0 replace 1 3 6 done\n> 3 replace\nedit 0 replace 4 3 2 refused order 4\n\
+        end\ntext 4 \"axyz\"\nspan 9 1 4 34 face 2\n",
+    ),
+    // Incoming spans are judged as given, and clipped to the text.
+    (
+        "",
+        r#"{"op":"replace","start":0,"end":0,"text":"a","spans":["1 0 1 17 tag 1"]}
+{"op":"replace","start":0,"end":0,"text":"a","spans":["9 0 1 16 tag 1"]}
+{"op":"replace","start":0,"end":0,"text":"a","spans":["9 0 5 17 tag 1"]}"#,
+        "> 1 replace\nedit 0 replace 0 0 1 refused reserved\n> 2 replace\nedit 0 replace 0 0 1 refused flags\n\
+        > 3 replace\nedit 0 replace 0 0 1 done\nend\ntext 1 \"a\"\nspan 9 0 1 17 tag 1\n",
+    ),
+    // A span alone is a change, and a second one of its id none.
+    (
+        "",
+        r#"{"op":"replace","start":0,"end":0,"text":"","spans":["9 0 0 51 margin 20 0"]}
+{"op":"replace","start":0,"end":0,"text":"","spans":["9 0 0 17 tag 1","8 0 0 33 tag 1"]}
+{"op":"replace","start":0,"end":0,"text":"","spans":["8 0 0 34 watch 0"]}"#,
+        "> 1 replace\nedit 0 replace 0 0 0 done\n> 2 replace\nedit 0 replace 0 0 0 nochange\n\
+        > 3 replace\nedit 0 replace 0 0 0 refused reserved\nend\ntext 0 \"\"\nspan 9 0 0 51 margin 20 0\n",
+    ),
+];
+
 // Lines that are the whole trace, with their faults.
-const FAULTY_LINES: [(&str, TraceFault); 8] = [
+const FAULTY_LINES: [(&str, TraceFault); 9] = [
     (r#"{"op":"remove_span","x":1}"#, TraceFault::Field),
     (r#"{"op":"remove_span"}"#, TraceFault::Missing),
     (r#"{"op":"remove_span","id":-1}"#, TraceFault::Number),
     (
         r#"{"op":"set_span","id":5,"start":0,"end":0,"flags":34,"what":"tag"}"#,
+        TraceFault::Text,
+    ),
+    (
+        r#"{"op":"replace","start":0,"end":0,"text":"a","spans":["5 1 0 17 tag 1"]}"#,
         TraceFault::Text,
     ),
     ("[]", TraceFault::NotObject),
@@ -116,12 +170,17 @@ const FAULTY_LINES: [(&str, TraceFault); 8] = [
 ];
 
 // Settings files, with their faults.
-const FAULTY_SETTINGS: [(&str, SettingsFault); 5] = [
+const FAULTY_SETTINGS: [(&str, SettingsFault); 7] = [
     ("depth = 9", SettingsFault::Limit),
     ("colour = 1", SettingsFault::Key),
     ("depth = \"4\"", SettingsFault::Value),
     ("depth =", SettingsFault::Toml),
     ("depth = 4\nwidth = 0\n", SettingsFault::Limit),
+    ("filter = 1", SettingsFault::Value),
+    (
+        "[[filter]]\nkind = \"upper\"\nmax = 1\n",
+        SettingsFault::Key,
+    ),
 ];
 
 fn texts(alloc: Global, words: &[&str]) -> Result<Vec<String>, Fail> {
@@ -217,6 +276,19 @@ fn spans_follow_the_text(rt: HostRuntime) -> Result<(), Fail> {
     Ok(())
 }
 
+#[test]
+fn text_and_spans_go_through_filters(rt: HostRuntime) -> Result<(), Fail> {
+    for (settings, trace, lines) in FILTERED {
+        let (status, written) = ran(rt.alloc(), &["play", "S", "T"], settings, trace)?;
+        assert_eq!(rt; status, Status::Done, "at {trace}");
+        assert!(rt;
+            has_part(written.as_slice(), lines.as_bytes()),
+            "at {trace}"
+        );
+    }
+    Ok(())
+}
+
 fn has_part(bytes: &[u8], part: &[u8]) -> bool {
     (0..bytes.len()).any(|at| bytes.get(at..).is_some_and(|rest| rest.starts_with(part)))
 }
@@ -224,16 +296,23 @@ fn has_part(bytes: &[u8], part: &[u8]) -> bool {
 #[test]
 fn spans_stay_within_their_limit(rt: HostRuntime) -> Result<(), Fail> {
     let mut trace = Vec::new(rt.alloc());
-    for id in 3..4_100u32 {
+    for id in 3..4_097u32 {
         let line = format!(in rt.alloc();
             "{{\"op\":\"set_span\",\"id\":{id},\"start\":0,\"end\":0,\"flags\":34,\"what\":\"tag 0\"}}\n"
         )?;
         trace.extend_from_slice(line.as_bytes())?;
     }
+    trace.extend_from_slice(
+        br#"{"op":"replace","start":0,"end":0,"text":"","spans":["4097 0 0 34 tag 0","3 0 0 34 tag 0","4098 0 0 34 tag 0","4099 0 0 34 tag 0"]}
+{"op":"replace","start":0,"end":0,"text":"","spans":["4097 0 0 34 tag 0","4098 0 0 34 tag 0"]}
+{"op":"set_span","id":4099,"start":0,"end":0,"flags":34,"what":"tag 0"}
+"#,
+    )?;
     let (status, written) = played(rt.alloc(), trace.as_slice(), &[], &[])?;
     assert_eq!(rt; status, Status::Done);
-    let wanted =
-        "edit 0 set 4098 0 0 34 done\n> 4097 set_span\nedit 0 set 4099 0 0 34 refused spans-full 4097\nend\n";
+    let wanted = "edit 0 set 4096 0 0 34 done\n\
+        > 4095 replace\nedit 0 replace 0 0 0 refused spans-full 4097\n> 4096 replace\nedit 0 replace 0 0 0 done\n\
+        > 4097 set_span\nedit 0 set 4099 0 0 34 refused spans-full 4097\nend\n";
     assert!(rt; has_part(written.as_slice(), wanted.as_bytes()));
     Ok(())
 }

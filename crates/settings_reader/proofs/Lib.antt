@@ -1,3 +1,5 @@
 mod Documents
-mod Faults
+mod Each
+mod Pairs
 mod TableKeys
+mod Values

@@ -1,66 +1,97 @@
-//! The keys of a settings file, and the numbers that they hold.
+//! The keys of a table, and the numbers that they hold.
 
-ghost use Rattle.std.specs.Prelude.{◌≡◌, ◌≤◌, IfOk, IfErr, IfSome, Some, None, option_map, not};
-ghost use Rattle.std.specs.Option.{option_and_then};
+ghost use Rattle.std.specs.Prelude.{◌≡◌, ◌≤◌, false, true, IfOk, IfErr, OnOk, map, option_map};
 ghost use Rattle.std.specs.List.{list_any};
-ghost use Rattle.toml.specs.Data.{as_integer, get_member};
+ghost use Rattle.std.specs.Str.{bytes_eq};
+ghost use Rattle.toml.specs.Data.{get_member};
 ghost use Rattle.toml.specs.View.{view, table_view};
-ghost use Rattle.edit_model.specs.State.{place};
-ghost use Rattle.edit_model.specs.Settings.{keys_of, is_known as is_known_key, first_fault};
-ghost use Rattle.settings_reader.specs.Numbers.{value_lines, key_lines};
+ghost use Rattle.edit_model.specs.Settings.{has_foreign as has_foreign_key, number_of as number_by, within as number_within, value_at as value_by, at_key};
+ghost use Rattle.settings_reader.specs.Faults.{Finds};
 
 use edit_model::SettingsFault;
 use toml::{Table, Value};
 
-/// Whether some key of the table is none of those that settings have.
-pub fn has_foreign_key(table: &Table) -> bool
-    ensures { result ≡ list_any (λ key. not (is_known_key key)) (keys_of (table_view table.now)) }
-{
-    table.keys().any(|key| !is_known(key.as_str()))
-}
-
-fn is_known(key: &str) -> bool
-    ensures { result ≡ is_known_key key.now }
-{
-    key == "depth" || key == "width"
-}
-
-/// The number at a key, and none where the key is absent.
+/// Asks that a table has no other keys than these.
 ///
 /// # Errors
-/// `Value` where the key holds no whole number, `Limit` where the number is below `least` or above `greatest`.
-pub fn number_of(
-    table: &Table,
-    key: &str,
-    least: u32,
-    greatest: u32,
-) -> Result<Option<u32>, SettingsFault>
-    ensures ok { IfOk result (λ _. first_fault (key_lines key.now least greatest (table_view table.now)) ≡ None) }
-    ensures err { IfErr result (λ it. first_fault (key_lines key.now least greatest (table_view table.now)) ≡ Some it) }
-    ensures found { IfOk result (λ found. found ≡ option_map place (option_and_then as_integer (get_member key.now (table_view table.now)))) }
-    ensures within { IfOk result (λ found. IfSome found (λ number. (least ≤ number) × (number ≤ greatest))) }
+/// `Key` where it has another one.
+pub(crate) fn only(table: &Table, names: &[&str]) -> Result<(), SettingsFault>
+    ensures ok { OnOk result (has_foreign_key (map (λ name. name.now) names.now) (table_view table.now) ≡ false) }
+    ensures err { IfErr result (λ it. (it ≡ SettingsFault.Key)
+        × (has_foreign_key (map (λ name. name.now) names.now) (table_view table.now) ≡ true)) }
 {
-    match value_at(table, key) {
-        Some(value) => Ok(Some(number_in(value, least, greatest)?)),
-        None => Ok(None),
+    if has_foreign(table, names) {
+        return Err(SettingsFault::Key);
     }
+    Ok(())
 }
 
-fn value_at<'a>(table: &'a Table, key: &str) -> Option<&'a Value>
+fn has_foreign(table: &Table, names: &[&str]) -> bool
+    ensures { result ≡ has_foreign_key (map (λ name. name.now) names.now) (table_view table.now) }
+{
+    table.keys().any(|key| !is_listed(names, key.as_str()))
+}
+
+fn is_listed(names: &[&str], key: &str) -> bool
+    ensures { result ≡ list_any (λ name. bytes_eq name.now key.now) names.now }
+{
+    names.iter().any(|name| *name == key)
+}
+
+/// The value at a key.
+///
+/// # Errors
+/// `Key` where the key is absent.
+pub(crate) fn value_at<'a>(table: &'a Table, key: &str) -> Result<&'a Value, SettingsFault>
+    ensures { Finds (λ value. view value.now) (value_by key.now (table_view table.now)) result }
+{
+    found_at(table, key).ok_or(SettingsFault::Key)
+}
+
+/// The value at a key, and none where the key is absent.
+pub(crate) fn found_at<'a>(table: &'a Table, key: &str) -> Option<&'a Value>
     ensures { option_map (λ value. view value.now) result ≡ get_member key.now (table_view table.now) }
 {
     table.get(key)
 }
 
-fn number_in(value: &Value, least: u32, greatest: u32) -> Result<u32, SettingsFault>
-    ensures ok { IfOk result (λ _. first_fault (value_lines least greatest (view value.now)) ≡ None) }
-    ensures err { IfErr result (λ it. first_fault (value_lines least greatest (view value.now)) ≡ Some it) }
-    ensures found { IfOk result (λ number. option_map place (as_integer (view value.now)) ≡ Some number) }
+/// The number at a key, or `silent` where the key is absent.
+///
+/// # Errors
+/// As [`number_of`].
+pub(crate) fn number_at(
+    table: &Table,
+    key: &str,
+    silent: u32,
+    least: u32,
+    greatest: u32,
+) -> Result<u32, SettingsFault>
+    ensures number { result ≡ at_key key.now silent (number_by least greatest) (table_view table.now) }
+    ensures within { least ≤ silent → silent ≤ greatest
+        → IfOk result (λ number. (least ≤ number) × (number ≤ greatest)) }
+{
+    match found_at(table, key) {
+        Some(value) => number_of(value, least, greatest),
+        None => Ok(silent),
+    }
+}
+
+/// The number that a value is.
+///
+/// # Errors
+/// `Value` where it is no whole number, `Limit` where the number is below `least` or above `greatest`.
+pub(crate) fn number_of(value: &Value, least: u32, greatest: u32) -> Result<u32, SettingsFault>
+    ensures number { result ≡ number_by least greatest (view value.now) }
     ensures within { IfOk result (λ number. (least ≤ number) × (number ≤ greatest)) }
 {
-    let Some(number) = value.as_integer() else {
-        return Err(SettingsFault::Value);
-    };
+    let number = value.as_integer().ok_or(SettingsFault::Value)?;
+    number_within(number, least, greatest)
+}
+
+fn number_within(number: i64, least: u32, greatest: u32) -> Result<u32, SettingsFault>
+    ensures number { result ≡ number_within least greatest number }
+    ensures within { IfOk result (λ number. (least ≤ number) × (number ≤ greatest)) }
+{
     let Ok(number) = u32::try_from(number) else {
         return Err(SettingsFault::Limit);
     };

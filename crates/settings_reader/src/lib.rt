@@ -1,7 +1,10 @@
 //! The settings of a run: those built in, and those that a file sets.
 #![tactic(auto)]
 
+mod arrays;
+mod filters;
 mod keys;
+mod ranges;
 mod reading;
 
 pub use edit_model::{Settings, SettingsFault};

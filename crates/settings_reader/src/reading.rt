@@ -1,20 +1,22 @@
 //! From the bytes of a settings file to its settings or its first fault.
 
-ghost use Rattle.std.specs.Prelude.{◌≡◌, ◌<◌, ◌≤◌, ◌⊎◌, length, IfOk, IfErr, IsOkAnd, Some, None};
+ghost use Rattle.std.specs.Prelude.{◌≡◌, ◌<◌, ◌≤◌, ◌⊎◌, [], codes, length, IfOk, IfErr, IsOkAnd, Some, None};
 ghost use Rattle.toml.specs.View.{table_view};
-ghost use Rattle.edit_model.specs.Settings.{toml_of, read_document, built_in as built_in_settings, read_settings as settings_of_bytes};
+ghost use Rattle.edit_model.specs.Settings.{toml_of, at_key, filters_of as filters_by, settings_of as settings_by, built_in as built_in_settings, read_settings as settings_of_bytes};
+ghost use Rattle.settings_reader.specs.Faults.{Gives};
 
-use crate::keys::{has_foreign_key, number_of};
-use edit_base::{Limits, NoMemory};
-use edit_model::{Settings, SettingsFault};
+use crate::filters::filters_of;
+use crate::keys::{found_at, number_at, only};
+use edit_base::{Items, Limits, NoMemory};
+use edit_model::{Filter, Settings, SettingsFault};
 use std::alloc::Global;
 use toml::Table;
 
 /// The width of the layout where the settings are silent.
 const WIDTH_DEFAULT: u32 = 400;
 
-/// The settings of a run without a file: edits nest 4 deep, and a line is 400 wide.
-pub fn built_in() -> Result<Settings, NoMemory>
+/// The settings of a run without a file: edits nest 4 deep, a line is 400 wide, and there are no filters.
+pub fn built_in(alloc: Global) -> Result<Settings, NoMemory>
     ensures settings { IsOkAnd result (λ settings. settings ≡ built_in_settings) }
     ensures depth { IfOk result (λ settings. settings.depth ≤ 8) }
     ensures width { IfOk result (λ settings. (1 ≤ settings.width) × (settings.width ≤ 16777216)) }
@@ -22,15 +24,21 @@ pub fn built_in() -> Result<Settings, NoMemory>
     Ok(Settings {
         depth: Limits::DEPTH_DEFAULT,
         width: WIDTH_DEFAULT,
+        filters: no_filters(alloc),
     })
 }
 
-/// Reads the settings from the bytes of a TOML file. What the file is silent about is as built in.
+/// Reads the settings from the bytes of a TOML file. What the file is silent about is as built in. An empty array
+/// at `filter` means no filters.
 ///
 /// # Errors
 /// The first fault: `Limit` where the file has more than 1,048,576 bytes, `Toml` where it is no TOML, `Key` where
-/// it has another key than `depth` and `width`; and then for each of these two, in this order, `Value` where it
-/// holds no whole number and `Limit` where the number is outside its limits. `NoMemory` where there is no memory.
+/// it has another key than `depth`, `width` and `filter`; then for each of the two numbers, in this order, `Value`
+/// where it is no whole number and `Limit` where it is outside its limits; then for the filters `Value` where they
+/// are no array of tables, and `Limit` where there are more than 8. Then table by table: `Key` without a `kind`,
+/// `Value` where it names none, `Key` where the table has a key that this kind doesn't take or lacks the one that
+/// it takes, and `Value` or `Limit` for what stands at that key: the number `max` of `length`, 0 to 1,048,576, or
+/// the array `ranges` of `allow`, at most 1,024 pairs of numbers 0 to 65,535. `NoMemory` where there is no memory.
 #[tactic(auto, unfolding(edit_model::specs::Settings::read_settings))]
 pub fn read_settings(alloc: Global, bytes: &[u8]) -> Result<Settings, SettingsFault>
     ensures ok { IfOk result (λ settings. settings_of_bytes bytes.now ≡ Ok settings) }
@@ -38,12 +46,13 @@ pub fn read_settings(alloc: Global, bytes: &[u8]) -> Result<Settings, SettingsFa
     ensures long { 1048576 < length bytes.now → result ≡ Err SettingsFault.Limit }
     ensures depth { IfOk result (λ settings. settings.depth ≤ 8) }
     ensures width { IfOk result (λ settings. (1 ≤ settings.width) × (settings.width ≤ 16777216)) }
+    ensures filters { IfOk result (λ settings. length settings.filters ≤ 8) }
 {
     if bytes.len() > Limits::SETTINGS_BYTES as usize {
         return Err(SettingsFault::Limit);
     }
     let table = table_of(alloc, bytes)?;
-    settings_of(&table)
+    settings_of(alloc, &table)
 }
 
 #[tactic(auto, using(crate::proofs::Documents::documents))]
@@ -63,19 +72,35 @@ fn table_of(alloc: Global, bytes: &[u8]) -> Result<Table, SettingsFault>
     }
 }
 
-#[tactic(auto, using(crate::proofs::Faults::faults))]
-fn settings_of(table: &Table) -> Result<Settings, SettingsFault>
-    ensures settings { result ≡ read_document (Some (table_view table.now)) }
+fn settings_of(alloc: Global, table: &Table) -> Result<Settings, SettingsFault>
+    ensures settings { Gives (settings_by (table_view table.now)) result }
     ensures depth { IfOk result (λ settings. settings.depth ≤ 8) }
     ensures width { IfOk result (λ settings. (1 ≤ settings.width) × (settings.width ≤ 16777216)) }
+    ensures filters { IfOk result (λ settings. length settings.filters ≤ 8) }
 {
-    if has_foreign_key(table) {
-        return Err(SettingsFault::Key);
-    }
-    let depth = number_of(table, "depth", 0, Limits::DEPTH)?;
-    let width = number_of(table, "width", 1, Limits::WIDTH)?;
+    only(table, &["depth", "width", "filter"])?;
+    let depth = number_at(table, "depth", Limits::DEPTH_DEFAULT, 0, Limits::DEPTH)?;
+    let width = number_at(table, "width", WIDTH_DEFAULT, 1, Limits::WIDTH)?;
+    let filters = filters_at(alloc, table)?;
     Ok(Settings {
-        depth: depth.unwrap_or(Limits::DEPTH_DEFAULT),
-        width: width.unwrap_or(WIDTH_DEFAULT),
+        depth,
+        width,
+        filters,
     })
+}
+
+fn filters_at(alloc: Global, table: &Table) -> Result<Items<Filter>, SettingsFault>
+    ensures filters { Gives (at_key (codes "filter") [] filters_by (table_view table.now)) result }
+    ensures few { IfOk result (λ filters. length filters ≤ 8) }
+{
+    match found_at(table, "filter") {
+        Some(value) => filters_of(alloc, value),
+        None => Ok(no_filters(alloc)),
+    }
+}
+
+fn no_filters(alloc: Global) -> Items<Filter>
+    ensures { result ≡ [] }
+{
+    Items::from_vec(Vec::new(alloc))
 }

@@ -49,7 +49,7 @@ impl Flags {
     pub fn priority(self) -> u8
         ensures { result ≡ priority_of self }
     {
-        ((self.word >> 16) & 0xff) as u8
+        priority_of_word(self.word)
     }
 
     /// Whether the span marks a composing text.
@@ -80,6 +80,13 @@ pub fn kind_of_word(word: u32) -> Kind
     ensures { result ≡ kind_of word }
 {
     kind_of_byte(low_byte(word)).unwrap_or(Kind::MarkMark)
+}
+
+/// The priority that a word carries, whether it is bad or not.
+pub fn priority_of_word(word: u32) -> u8
+    ensures { result ≡ priority_of word }
+{
+    ((word >> 16) & 0xff) as u8
 }
 
 /// How the start of a span of this kind moves.

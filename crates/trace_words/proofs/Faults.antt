@@ -1,5 +1,5 @@
 -- The faults of an operation, taken field by field, and those of the table of faults.
-use Rattle.std.proofs.Common.{ℕ, ℤ, pos, ◌≡◌, Bool, true, false, not, ◌||◌, cond, length, ◌≤◌, arith, List, [], map, Option, Some, None, Result, Ok, Err, is_some, is_none, String, Global, string_bytes, refl, sym, ap, ◌∙◌}
+use Rattle.std.proofs.Common.{ℕ, ℤ, pos, ◌≡◌, Bool, true, false, not, ◌||◌, cond, length, ◌≤◌, arith, List, [], map, Option, Some, None, Result, Ok, Err, is_some, String, Global, string_bytes, refl, sym, ap, ◌∙◌}
 use Rattle.std.specs.Prelude.{IfOk, nat_lt, unwrap_or, ok_or, codes}
 use Rattle.std.specs.Option.{option_and_then}
 use Rattle.std.specs.List.{list_any}
@@ -10,33 +10,34 @@ use Rattle.serde_json.specs.View.{members_view}
 use Rattle.serde_json.specs.declared.value.Value.{Value}
 use Rattle.edit_base.specs.declared.kinds.What.{What}
 use Rattle.edit_base.specs.declared.kinds.What.TheVariants.{Tag}
+use Rattle.edit_base.specs.declared.rows.NewSpan.{NewSpan}
 use Rattle.serde_json.specs.Find.{as_object}
 use Rattle.edit_base.specs.declared.bounds.TheConstants.Limits.{LINE_BYTES}
 use Rattle.edit_model.specs.declared.commands.Command.{Command}
 use Rattle.edit_model.specs.declared.commands.Command.TheVariants as command
 use Rattle.edit_model.specs.declared.faults.TraceFault.{TraceFault}
 use Rattle.edit_model.specs.declared.faults.TraceFault.TheVariants as fault
-use Rattle.edit_model.specs.Operations.{place, id, text, what, Operation}
-use Rattle.edit_model.specs.Reading.{value_in, place_of, id_of, text_of, what_of, fits, plain_incoming, unless_fault, lacks_number, lacks_text, is_known, is_absent, keys_of, command_in, json_of, operation_of, read_operation, read_object, read_value, read_command, IsFitting}
+use Rattle.edit_model.specs.Operations.{place, id, text, what, spans, Operation}
+use Rattle.edit_model.specs.Reading.{value_in, place_of, id_of, text_of, what_of, spans_of, fits, incoming_of, unless_fault, lacks_number, lacks_text, is_known, is_missing, keys_of, command_in, json_of, operation_of, read_operation, read_object, read_value, read_command, IsFitting}
 use Rattle.edit_model.proofs.Readings.{fits-read_command}
 use Rattle.trace_words.specs.declared.table.Kind.{Kind}
 use Rattle.trace_words.specs.declared.table.Kind.TheVariants.{Replace, SetSpan, RemoveSpan, SpansOver, NextEdge}
 use Rattle.trace_words.specs.declared.table.Operation as row
-use Rattle.trace_words.specs.Table.{operation_by, field_names}
-use Rattle.trace_words.specs.Fields.{and_then, read_fields, is_foreign}
+use Rattle.trace_words.specs.Table.{NamedField, operation_by, named_fields, shown_field}
+use Rattle.trace_words.specs.Fields.{and_then, spans_if, read_fields, is_foreign, is_absent}
 use Rattle.trace_words.proofs.Json.{list_any-keys, list_any-map}
 
-abbrev has_foreign : List (List ℕ) → Members → Bool
-has_foreign names members = list_any (is_foreign names) (keys_of members)
+abbrev has_foreign : List NamedField → Members → Bool
+has_foreign fields members = list_any (is_foreign fields) (keys_of members)
 
-abbrev lacks_one : List (List ℕ) → Members → Bool
-lacks_one names members = list_any (λ name. is_none (value_in name members)) names
+abbrev lacks_one : List NamedField → Members → Bool
+lacks_one fields members = list_any (is_absent members) fields
 
 -- the command of an operation, or its first fault
 abbrev read_by : Kind → Members → Result Command TraceFault
 read_by kind members =
-    cond (has_foreign (field_names (operation_by kind)) members) (Err fault.Field)
-    (cond (lacks_one (field_names (operation_by kind)) members) (Err fault.Missing) (read_fields kind members))
+    cond (has_foreign (named_fields (operation_by kind)) members) (Err fault.Field)
+    (cond (lacks_one (named_fields (operation_by kind)) members) (Err fault.Missing) (read_fields kind members))
 
 fits-place : (value : Option Data) → fits place value ≡ is_some (option_and_then place_of value)
 fits-place None = refl
@@ -58,14 +59,23 @@ fits-what (Some value) = refl
 abbrev last_faults : Bool → Bool → Option TraceFault
 last_faults numbers texts = cond numbers (Some fault.Number) (cond texts (Some fault.Text) None)
 
-replaced : (start end : Option ℤ) (units : Option (List ℕ))
-    → unless_fault (last_faults (not (is_some start) || (not (is_some end) || false)) (not (is_some units) || false))
-    (command.Replace (unwrap_or start (pos 0)) (unwrap_or end (pos 0)) (plain_incoming (unwrap_or units [])))
-    ≡ and_then (λ start. and_then (λ end. and_then (λ units. Ok (command.Replace start end (plain_incoming units))) (ok_or units fault.Text)) (ok_or end fault.Number)) (ok_or start fault.Number)
-replaced None end units = refl
-replaced (Some start) None units = refl
-replaced (Some start) (Some end) None = refl
-replaced (Some start) (Some end) (Some units) = refl
+-- the spans are read last, and may be left out
+listed : (start end : ℤ) (units : List ℕ) (found : Option (List NewSpan))
+    → unless_fault (last_faults false (not (is_some found) || false)) (command.Replace start end (incoming_of units (unwrap_or found [])))
+    ≡ and_then (λ brought. Ok (command.Replace start end (incoming_of units brought))) (ok_or found fault.Text)
+listed start end units None = refl
+listed start end units (Some brought) = refl
+
+replaced : (start end : Option ℤ) (units : Option (List ℕ)) (value : Option Data)
+    → unless_fault (last_faults (not (is_some start) || (not (is_some end) || false)) (not (is_some units) || (not (fits spans value) || false)))
+    (command.Replace (unwrap_or start (pos 0)) (unwrap_or end (pos 0)) (incoming_of (unwrap_or units []) (unwrap_or (option_and_then spans_of value) [])))
+    ≡ and_then (λ start. and_then (λ end. and_then (λ units. and_then (λ brought. Ok (command.Replace start end (incoming_of units brought)))
+    (ok_or (spans_if value) fault.Text)) (ok_or units fault.Text)) (ok_or end fault.Number)) (ok_or start fault.Number)
+replaced None end units value = refl
+replaced (Some start) None units value = refl
+replaced (Some start) (Some end) None value = refl
+replaced (Some start) (Some end) (Some units) None = refl
+replaced (Some start) (Some end) (Some units) (Some value) = listed start end units (spans_of value)
 
 set : (span : Option ℕ) (start end : Option ℤ) (flags : Option ℕ) (it : Option What)
     → unless_fault (last_faults (not (is_some span) || (not (is_some start) || (not (is_some end) || (not (is_some flags) || false)))) (not (is_some it) || false))
@@ -104,15 +114,15 @@ last_lines kind members =
     last_faults (list_any (lacks_number members) (operation_by kind).fields) (list_any (lacks_text members) (operation_by kind).fields)
 
 at_last : (kind : Kind) (members : Members) → unless_fault (last_lines kind members) (command_in (operation_by kind).kind members) ≡ read_fields kind members
-    → cond (list_any (λ key. not (is_known (operation_by kind) key)) (keys_of members)) (Err fault.Field) (cond (list_any (is_absent members) (operation_by kind).fields) (Err fault.Missing) (read_fields kind members)) ≡ read_by kind members
+    → cond (list_any (λ key. not (is_known (operation_by kind) key)) (keys_of members)) (Err fault.Field) (cond (list_any (is_missing members) (operation_by kind).fields) (Err fault.Missing) (read_fields kind members)) ≡ read_by kind members
     → read_operation members (Some (operation_by kind)) ≡ read_by kind members
 at_last kind members same named =
-    staged (list_any (λ key. not (is_known (operation_by kind) key)) (keys_of members)) (list_any (is_absent members) (operation_by kind).fields) (last_lines kind members) (command_in (operation_by kind).kind members) (read_fields kind members) same ∙ named
+    staged (list_any (λ key. not (is_known (operation_by kind) key)) (keys_of members)) (list_any (is_missing members) (operation_by kind).fields) (last_lines kind members) (command_in (operation_by kind).kind members) (read_fields kind members) same ∙ named
 
 read_by-is : (kind : Kind) (members : Members) → read_operation members (Some (operation_by kind)) ≡ read_by kind members
 read_by-is Replace members =
     at_last Replace members (rw (fits-place (value_in (codes "start") members), fits-place (value_in (codes "end") members), fits-text (value_in (codes "text") members))
-    (replaced (option_and_then place_of (value_in (codes "start") members)) (option_and_then place_of (value_in (codes "end") members)) (option_and_then text_of (value_in (codes "text") members)))) refl
+    (replaced (option_and_then place_of (value_in (codes "start") members)) (option_and_then place_of (value_in (codes "end") members)) (option_and_then text_of (value_in (codes "text") members)) (value_in (codes "spans") members))) refl
 read_by-is SetSpan members =
     at_last SetSpan members (rw (fits-id (value_in (codes "id") members), fits-place (value_in (codes "start") members), fits-place (value_in (codes "end") members), fits-id (value_in (codes "flags") members), fits-what (value_in (codes "what") members))
     (set (option_and_then id_of (value_in (codes "id") members)) (option_and_then place_of (value_in (codes "start") members)) (option_and_then place_of (value_in (codes "end") members)) (option_and_then id_of (value_in (codes "flags") members)) (option_and_then what_of (value_in (codes "what") members)))) refl
@@ -128,53 +138,53 @@ read_by-is NextEdge members =
 -- ---- an operation that was found, with the keys of a map
 
 abbrev Names : row.Operation → Type 0
-Names it = map (λ field. field.now) it.fields.now ≡ field_names (operation_by it.kind)
+Names it = map shown_field it.fields.now ≡ named_fields (operation_by it.kind)
 
 abbrev Map : Type 0
 Map = List (String Global × Value)
 
 abbrev foreign_in : row.Operation → Map → Bool
-foreign_in it entries = list_any (λ key. is_foreign (map (λ field. field.now) it.fields.now) (string_bytes key)) (map (λ it. it.0) entries)
+foreign_in it entries = list_any (λ key. is_foreign (map shown_field it.fields.now) (string_bytes key)) (map (λ it. it.0) entries)
 
 abbrev absent_in : row.Operation → Map → Bool
-absent_in it entries = list_any (λ field. is_none (value_in field.now (members_view entries))) it.fields.now
+absent_in it entries = list_any (λ field. is_absent (members_view entries) (shown_field field)) it.fields.now
 
-foreign-is : (it : row.Operation) (entries : Map) → Names it → has_foreign (field_names (operation_by it.kind)) (members_view entries) ≡ foreign_in it entries
+foreign-is : (it : row.Operation) (entries : Map) → Names it → has_foreign (named_fields (operation_by it.kind)) (members_view entries) ≡ foreign_in it entries
 foreign-is it entries named =
-    ap (λ names. has_foreign names (members_view entries)) (sym named) ∙ sym (list_any-keys (is_foreign (map (λ field. field.now) it.fields.now)) entries)
+    ap (λ fields. has_foreign fields (members_view entries)) (sym named) ∙ sym (list_any-keys (is_foreign (map shown_field it.fields.now)) entries)
 
-absent-is : (it : row.Operation) (entries : Map) → Names it → lacks_one (field_names (operation_by it.kind)) (members_view entries) ≡ absent_in it entries
+absent-is : (it : row.Operation) (entries : Map) → Names it → lacks_one (named_fields (operation_by it.kind)) (members_view entries) ≡ absent_in it entries
 absent-is it entries named =
-    ap (λ names. lacks_one names (members_view entries)) (sym named) ∙ sym (list_any-map (λ name. is_none (value_in name (members_view entries))) (λ field. field.now) it.fields.now)
+    ap (λ fields. lacks_one fields (members_view entries)) (sym named) ∙ sym (list_any-map (is_absent (members_view entries)) shown_field it.fields.now)
 
 read_found : (it : row.Operation) (entries : Map) (found : Option Operation) → Some (operation_by it.kind) ≡ found
     → read_operation (members_view entries) found ≡ read_by it.kind (members_view entries)
 read_found it entries found is = ap (read_operation (members_view entries)) (sym is) ∙ read_by-is it.kind (members_view entries)
 
 abbrev rest : row.Operation → Map → Result Command TraceFault
-rest it entries = cond (lacks_one (field_names (operation_by it.kind)) (members_view entries)) (Err fault.Missing) (read_fields it.kind (members_view entries))
+rest it entries = cond (lacks_one (named_fields (operation_by it.kind)) (members_view entries)) (Err fault.Missing) (read_fields it.kind (members_view entries))
 
 pub read_foreign : (it : row.Operation) (entries : Map) (found : Option Operation) → Some (operation_by it.kind) ≡ found → Names it
     → foreign_in it entries ≡ true → read_operation (members_view entries) found ≡ Err fault.Field
 read_foreign it entries found is named foreign =
-    read_found it entries found is ∙ cond-true (has_foreign (field_names (operation_by it.kind)) (members_view entries)) (Err fault.Field) (rest it entries) (foreign-is it entries named ∙ foreign)
+    read_found it entries found is ∙ cond-true (has_foreign (named_fields (operation_by it.kind)) (members_view entries)) (Err fault.Field) (rest it entries) (foreign-is it entries named ∙ foreign)
 
 known : (it : row.Operation) (entries : Map) (found : Option Operation) → Some (operation_by it.kind) ≡ found → Names it
     → foreign_in it entries ≡ false → read_operation (members_view entries) found ≡ rest it entries
 known it entries found is named foreign =
-    read_found it entries found is ∙ cond-false (has_foreign (field_names (operation_by it.kind)) (members_view entries)) (Err fault.Field) (rest it entries) (foreign-is it entries named ∙ foreign)
+    read_found it entries found is ∙ cond-false (has_foreign (named_fields (operation_by it.kind)) (members_view entries)) (Err fault.Field) (rest it entries) (foreign-is it entries named ∙ foreign)
 
 pub read_absent : (it : row.Operation) (entries : Map) (found : Option Operation) → Some (operation_by it.kind) ≡ found → Names it
     → foreign_in it entries ≡ false → absent_in it entries ≡ true → read_operation (members_view entries) found ≡ Err fault.Missing
 read_absent it entries found is named foreign absent =
     known it entries found is named foreign
-    ∙ cond-true (lacks_one (field_names (operation_by it.kind)) (members_view entries)) (Err fault.Missing) (read_fields it.kind (members_view entries)) (absent-is it entries named ∙ absent)
+    ∙ cond-true (lacks_one (named_fields (operation_by it.kind)) (members_view entries)) (Err fault.Missing) (read_fields it.kind (members_view entries)) (absent-is it entries named ∙ absent)
 
 pub read_whole : (it : row.Operation) (entries : Map) (found : Option Operation) → Some (operation_by it.kind) ≡ found → Names it
     → foreign_in it entries ≡ false → absent_in it entries ≡ false → read_operation (members_view entries) found ≡ read_fields it.kind (members_view entries)
 read_whole it entries found is named foreign absent =
     known it entries found is named foreign
-    ∙ cond-false (lacks_one (field_names (operation_by it.kind)) (members_view entries)) (Err fault.Missing) (read_fields it.kind (members_view entries)) (absent-is it entries named ∙ absent)
+    ∙ cond-false (lacks_one (named_fields (operation_by it.kind)) (members_view entries)) (Err fault.Missing) (read_fields it.kind (members_view entries)) (absent-is it entries named ∙ absent)
 
 -- the command of a line whose value is an object
 pub read_line-object : (line : List ℕ) (value : Data) (members : Members) → length line ≤ LINE_BYTES → json_of line ≡ Some value → Some members ≡ as_object value

@@ -36,11 +36,10 @@ list_any-keys p [] = refl
 list_any-keys p (first ∷ members) = ap (λ b. p (string_bytes first.0) || b) (list_any-keys p members)
 
 -- a key that isn't `op` is foreign where it isn't listed
-pub foreign_key : (op key : List ℕ) (listed : Bool) (names : List (List ℕ)) → not (bytes_eq key op) ≡ true → listed ≡ list_any (λ name. bytes_eq name key) names
-    → not listed ≡ not (bytes_eq op key || list_any (λ name. bytes_eq name key) names)
-foreign_key op key listed names other is = at (bytes_eq op key) refl
+pub foreign_key : (op key : List ℕ) (listed found : Bool) → not (bytes_eq key op) ≡ true → listed ≡ found → not listed ≡ not (bytes_eq op key || found)
+foreign_key op key listed found other is = at (bytes_eq op key) refl
   where
-    at : (test : Bool) → bytes_eq op key ≡ test → not listed ≡ not (test || list_any (λ name. bytes_eq name key) names)
+    at : (test : Bool) → bytes_eq op key ≡ test → not listed ≡ not (test || found)
     at true same =
         let equal : bytes_eq key op ≡ true = (bytes_eq-Decides key op).1 (sym ((bytes_eq-Decides op key).0 same)) in absurd (cc)
     at false same = ap not is

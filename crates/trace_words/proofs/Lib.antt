@@ -3,3 +3,4 @@ pub mod Numbers
 pub mod Rows
 pub mod Cuts
 pub mod Faults
+pub mod Counted

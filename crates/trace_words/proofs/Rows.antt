@@ -5,13 +5,13 @@ use Rattle.std.specs.List.{find, IsDistinct}
 use Rattle.std.specs.Str.{bytes_eq}
 use Rattle.edit_model.specs.Operations.{Operation}
 use Rattle.trace_words.specs.declared.table.Operation as row
-use Rattle.trace_words.specs.Table.{Named, named, shown, table, field_names, operation_by}
+use Rattle.trace_words.specs.Table.{Named, named, named_fields, shown, shown_field, table, operation_by}
 
 abbrev by : row.Operation → Operation
 by it = operation_by it.kind
 
 abbrev Names : row.Operation → Type 0
-Names it = map (λ field. field.now) it.fields.now ≡ field_names (by it)
+Names it = map shown_field it.fields.now ≡ named_fields (by it)
 
 -- each row holds the names of its operation
 abbrev AreShown : List row.Operation → Type 0

@@ -7,13 +7,13 @@ ghost use Rattle.edit_model.specs.Operations.{operations};
 ghost use Rattle.std.specs.Str.{bytes_eq};
 ghost use Rattle.serde_json.specs.Find.{as_str};
 ghost use Rattle.serde_json.specs.View.{view, members_view};
-ghost use Rattle.edit_model.specs.Reading.{json_of, value_in, operation_of, read_object, read_command, plain_incoming, IsFitting};
-ghost use Rattle.trace_words.specs.Table.{operation_by, field_names};
-ghost use Rattle.trace_words.specs.Fields.{read_fields, is_foreign, Gives};
+ghost use Rattle.edit_model.specs.Reading.{json_of, value_in, operation_of, read_object, read_command, incoming_of, IsFitting};
+ghost use Rattle.trace_words.specs.Table.{operation_by, shown_field, named_fields};
+ghost use Rattle.trace_words.specs.Fields.{read_fields, is_foreign, is_absent, Gives};
 
-use crate::fields::{Object, id_in, member, place_in, text_in, what_in};
-use crate::table::{Kind, Operation, rows};
-use edit_base::{Incoming, Items, Limits};
+use crate::fields::{Object, id_in, member, place_in, spans_in, text_in, what_in};
+use crate::table::{Field, Kind, Operation, rows};
+use edit_base::{Incoming, Items, Limits, NewSpan};
 use edit_model::{Command, TraceFault};
 use serde_json::Value;
 use std::alloc::Global;
@@ -78,7 +78,7 @@ fn operation_of(object: &Object) -> Option<Operation>
     ensures value { option_map (λ it. operation_by it.kind) result
         ≡ operation_of (members_view object.now.entries) }
     ensures names { IfSome result
-        (λ it. map (λ field. field.now) it.fields.now ≡ field_names (operation_by it.kind)) }
+        (λ it. map shown_field it.fields.now ≡ named_fields (operation_by it.kind)) }
 {
     let name = op_of(object)?;
     row_named(&rows(), name)
@@ -97,29 +97,36 @@ fn row_named(rows: &[Operation], name: &str) -> Option<Operation>
     rows.iter().copied().find(|row| row.name == name)
 }
 
-fn has_foreign(object: &Object, fields: &[&str]) -> bool
-    ensures { result ≡ list_any (λ key. is_foreign (map (λ field. field.now) fields.now) (string_bytes key)) (keys object.now) }
+fn has_foreign(object: &Object, fields: &[Field]) -> bool
+    ensures { result ≡ list_any (λ key. is_foreign (map shown_field fields.now) (string_bytes key)) (keys object.now) }
 {
     object.keys().any(|key| is_foreign(fields, key.as_str()))
 }
 
 // Whether a key is neither `op` nor a field.
-fn is_foreign(fields: &[&str], key: &str) -> bool
-    ensures { result ≡ is_foreign (map (λ field. field.now) fields.now) key.now }
+fn is_foreign(fields: &[Field], key: &str) -> bool
+    ensures { result ≡ is_foreign (map shown_field fields.now) key.now }
 {
     key != "op" && !is_listed(fields, key)
 }
 
-fn is_listed(names: &[&str], name: &str) -> bool
-    ensures { result ≡ list_any (λ it. bytes_eq it.now name.now) names.now }
+fn is_listed(fields: &[Field], name: &str) -> bool
+    ensures { result ≡ list_any (λ it. bytes_eq it.name.now name.now) fields.now }
 {
-    names.iter().any(|it| *it == name)
+    fields.iter().any(|field| field.name == name)
 }
 
-fn lacks_one(object: &Object, fields: &[&str]) -> bool
-    ensures { result ≡ list_any (λ field. is_none (value_in field.now (members_view object.now.entries))) fields.now }
+fn lacks_one(object: &Object, fields: &[Field]) -> bool
+    ensures { result ≡ list_any (λ it. is_absent (members_view object.now.entries) (shown_field it)) fields.now }
 {
-    fields.iter().any(|field| member(object, field).is_none())
+    fields.iter().any(|field| is_absent(object, field))
+}
+
+// Whether a field has to stand, and doesn't.
+fn is_absent(object: &Object, field: &Field) -> bool
+    ensures { result ≡ is_absent (members_view object.now.entries) (shown_field field.now) }
+{
+    field.required && member(object, field.name).is_none()
 }
 
 // ---- fields
@@ -130,6 +137,7 @@ macro_rules! field {
     ($alloc:expr, $object:expr, $name:expr, id) => { id_in($object, $name)? };
     ($alloc:expr, $object:expr, $name:expr, text) => { text_in($alloc, $object, $name)? };
     ($alloc:expr, $object:expr, $name:expr, what) => { what_in($object, $name)? };
+    ($alloc:expr, $object:expr, $name:expr, spans) => { spans_in($alloc, $object, $name)? };
 }
 
 /// A command of fields, which are read in this order: numbers in front of texts.
@@ -145,8 +153,9 @@ fn read_fields(alloc: Global, kind: Kind, object: &Object) -> Result<Command, Tr
     ensures { Gives (read_fields kind (members_view object.now.entries)) result }
 {
     match kind {
-        Kind::Replace => command!(alloc, object, { start: place, end: place, text: text }
-            => Command::Replace { start, end, incoming: incoming_of(alloc, text) }),
+        Kind::Replace =>
+            command!(alloc, object, { start: place, end: place, text: text, spans: spans }
+            => Command::Replace { start, end, incoming: incoming_of(text, spans) }),
         Kind::SetSpan =>
             command!(alloc, object, { id: id, start: place, end: place, flags: id, what: what }
             => Command::SetSpan { id, start, end, flags, what }),
@@ -158,12 +167,12 @@ fn read_fields(alloc: Global, kind: Kind, object: &Object) -> Result<Command, Tr
     }
 }
 
-fn incoming_of(alloc: Global, units: Items<u16>) -> Incoming
-    ensures { result ≡ plain_incoming units }
+fn incoming_of(units: Items<u16>, spans: Items<NewSpan>) -> Incoming
+    ensures { result ≡ incoming_of units spans }
 {
     Incoming {
         units,
-        spans: Items::from_vec(Vec::new(alloc)),
+        spans,
         composing: false,
     }
 }

@@ -18,15 +18,23 @@ pub(crate) enum Kind {
     NextEdge,
 }
 
-/// An operation: its name, and the names of its fields.
+/// A field of an operation.
+#[derive(Clone, Copy)]
+pub(crate) struct Field {
+    pub(crate) name: &'static str,
+    /// Whether it has to stand. Another field may be left out.
+    pub(crate) required: bool,
+}
+
+/// An operation: its name and its fields.
 #[derive(Clone, Copy)]
 pub(crate) struct Operation {
     pub(crate) kind: Kind,
     pub(crate) name: &'static str,
-    pub(crate) fields: &'static [&'static str],
+    pub(crate) fields: &'static [Field],
 }
 
-/// The operations that are built, each with the names of its fields.
+/// The operations that are built, each with the names of its fields, and whether each field has to stand.
 #[derive(Drop)]
 pub struct OpTable<const N: usize> {
     rows: [Operation; N],
@@ -41,10 +49,17 @@ impl<const N: usize> Model for OpTable<N> {
     ghost view = { λ it. map shown it.rows };
 }
 
-/// Rows, each a kind and a name with the names of the fields behind it.
+/// Rows, each a kind and a name with the fields behind it. A field in brackets may be left out.
 macro_rules! rows {
-    ($($kind:ident $name:literal: $($field:literal)*;)+) => {
-        [$(Operation { kind: Kind::$kind, name: $name, fields: &[$($field),*] }),+]
+    ($($kind:ident $name:literal: $($field:literal)* $([$spare:literal])*;)+) => {
+        [$(Operation {
+            kind: Kind::$kind,
+            name: $name,
+            fields: &[
+                $(Field { name: $field, required: true },)*
+                $(Field { name: $spare, required: false },)*
+            ],
+        }),+]
     };
 }
 
@@ -53,7 +68,7 @@ pub(crate) fn rows() -> [Operation; 5]
     ensures names { map shown result ≡ table }
 {
     rows! {
-        Replace "replace": "start" "end" "text";
+        Replace "replace": "start" "end" "text" ["spans"];
         SetSpan "set_span": "id" "start" "end" "flags" "what";
         RemoveSpan "remove_span": "id";
         SpansOver "spans_over": "start" "end";

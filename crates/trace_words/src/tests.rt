@@ -1,20 +1,41 @@
 use super::*;
 use crate::table::rows;
+use edit_base::NewSpan;
 use std::alloc::{AllocError, Global};
 use std::test::Fail;
 
 #[test]
 fn the_table_has_each_operation_with_its_fields(rt: HostRuntime) -> Result<(), Fail> {
     let want =
-        "replace(start end text) set_span(id start end flags what) remove_span(id) spans_over(start end) next_edge(start limit) ";
+        "replace start end text [spans]; set_span id start end flags what; remove_span id; spans_over start end; next_edge start limit; ";
     let mut words = String::new(rt.alloc());
     let _table = op_table();
     for row in &rows() {
-        let fields = row.fields.join(rt.alloc(), " ")?;
-        words.push_str(&format!(in rt.alloc(); "{}({fields}) ", row.name)?)?;
+        words.push_str(row.name)?;
+        for field in row.fields {
+            let (open, close) = if field.required { ("", "") } else { ("[", "]") };
+            words.push_str(&format!(in rt.alloc(); " {open}{}{close}", field.name)?)?;
+        }
+        words.push_str("; ")?;
     }
     assert_eq!(rt; words.as_str(), want);
     Ok(())
+}
+
+// Spans that were read, each number behind its name.
+fn shown_spans(alloc: Global, spans: &[NewSpan]) -> Result<String, AllocError> {
+    let mut words = String::new(alloc);
+    for span in spans {
+        let NewSpan {
+            id,
+            start,
+            end,
+            flags,
+            what,
+        } = *span;
+        words.push_str(&format!(in alloc; "#{id} {start}..{end} {flags} {what:?};")?)?;
+    }
+    Ok(words)
 }
 
 // What a line is read as, in short words: a fault by its name.
@@ -28,9 +49,9 @@ fn shown(alloc: Global, read: &Result<Command, TraceFault>) -> Result<String, Al
             },
         ) => {
             let units = incoming.units.as_slice();
-            let others = incoming.spans.len();
             let composing = incoming.composing;
-            format!(in alloc; "replace {start} {end} {units:?} {others} {composing}")
+            let spans = shown_spans(alloc, incoming.spans.as_slice())?;
+            format!(in alloc; "replace {start} {end} {units:?} [{spans}] {composing}")
         }
         Ok(
             Command::SetSpan {
@@ -50,7 +71,7 @@ fn shown(alloc: Global, read: &Result<Command, TraceFault>) -> Result<String, Al
 
 #[test]
 fn a_line_is_a_command_or_has_its_first_fault(rt: HostRuntime) -> Result<(), Fail> {
-    let lines: [(&[u8], &str); 42] = [
+    let lines: [(&[u8], &str); 45] = [
         (b"{\"op\":", "json"),
         (b"", "json"),
         (b"{\"op\":\"a\x01\"}", "json"),
@@ -69,13 +90,22 @@ fn a_line_is_a_command_or_has_its_first_fault(rt: HostRuntime) -> Result<(), Fai
         (br#"{"op":"Replace","start":0,"end":0,"text":"a"}"#, "op"),
         (br#"{"op":"finish","x":1}"#, "op"),
         (
-            br#"{"op":"replace","start":0,"end":0,"text":"a","spans":[]}"#,
+            br#"{"op":"replace","start":0,"end":0,"text":"a","span":[]}"#,
             "field",
         ),
         (br#"{"op":"replace","x":1}"#, "field"),
+        (
+            br#"{"op":"set_span","id":5,"start":0,"end":0,"flags":0,"what":"tag 1","spans":[]}"#,
+            "field",
+        ),
+        (br#"{"op":"remove_span","id":5,"spans":[]}"#, "field"),
         (br#"{"op":"remove_span","x":1}"#, "field"),
         (br#"{"op":"remove_span"}"#, "missing"),
         (br#"{"op":"replace","start":1.5,"end":0}"#, "missing"),
+        (
+            br#"{"op":"replace","start":0,"end":0,"spans":[5]}"#,
+            "missing",
+        ),
         (
             br#"{"op":"set_span","id":"a","start":0,"end":0,"flags":0}"#,
             "missing",
@@ -115,15 +145,15 @@ fn a_line_is_a_command_or_has_its_first_fault(rt: HostRuntime) -> Result<(), Fai
         ),
         (
             br#"{"op":"replace","start":1,"end":-2,"text":"\ud83d\ude00a"}"#,
-            "replace 1 -2 [55357, 56832, 97] 0 false",
+            "replace 1 -2 [55357, 56832, 97] [] false",
         ),
         (
             br#" { "text" : "" , "end":2147483647,"op":"replace","start":-2147483648} "#,
-            "replace -2147483648 2147483647 [] 0 false",
+            "replace -2147483648 2147483647 [] [] false",
         ),
         (
             br#"{"\u006fp":"repl\u0061ce","start":0,"end":0,"text":"\n"}"#,
-            "replace 0 0 [10] 0 false",
+            "replace 0 0 [10] [] false",
         ),
         (
             br#"{"op":"select","op":"remove_span","id":-1,"id":4294967295}"#,
@@ -205,5 +235,160 @@ fn long_and_deep_lines_have_their_faults(rt: HostRuntime) -> Result<(), Fail> {
     deep.resize(256, b']')?;
     let read = read_line(rt.alloc(), &deep);
     assert_eq!(rt; shown(rt.alloc(), &read)?.as_str(), "json");
+    Ok(())
+}
+
+#[test]
+fn a_replacement_brings_the_spans_of_its_list(rt: HostRuntime) -> Result<(), Fail> {
+    let members = [
+        ("", "replace 0 1 [97] [] false"),
+        (r#","spans":[]"#, "replace 0 1 [97] [] false"),
+        (
+            r#","spans":["5 0 1 33 watch 2"]"#,
+            "replace 0 1 [97] [#5 0..1 33 Watch(2);] false",
+        ),
+        (
+            r#","spans":["9 7 8 0 tag 1","5 0 0 1 face 2","9 7 8 0 tag 1"]"#,
+            "replace 0 1 [97] [#9 7..8 0 Tag(1);#5 0..0 1 Face(2);#9 7..8 0 Tag(1);] false",
+        ),
+        (
+            r#","sp\u0061ns":["5 0 1 33\u0020tag 1"]"#,
+            "replace 0 1 [97] [#5 0..1 33 Tag(1);] false",
+        ),
+        (r#","spans":null,"spans":[]"#, "replace 0 1 [97] [] false"),
+        (
+            r#","spans":[1],"spans":["5 0 1 33 tag 1"]"#,
+            "replace 0 1 [97] [#5 0..1 33 Tag(1);] false",
+        ),
+        (r#","spans":["5 0 1 33 tag 1"],"spans":[1]"#, "text"),
+        (r#","spans":null"#, "text"),
+        (r#","spans":false"#, "text"),
+        (r#","spans":0"#, "text"),
+        (r#","spans":"5 0 1 33 tag 1""#, "text"),
+        (r#","spans":{"0":"5 0 1 33 tag 1"}"#, "text"),
+        (r#","spans":[null]"#, "text"),
+        (r#","spans":[5]"#, "text"),
+        (r#","spans":[["5 0 1 33 tag 1"]]"#, "text"),
+        (r#","spans":["5 0 1 33 tag 1",7]"#, "text"),
+        (r#","spans":["","5 0 1 33 tag 1"]"#, "text"),
+        (r#","spans":["5 0 1 33 tag 1","6 2 1 33 tag 1"]"#, "text"),
+        (r#","spans":null,"end":"a""#, "number"),
+        (r#","spans":["5 2 1 33 tag 1"],"start":0.5"#, "number"),
+        (r#","spans":["5 2 1 33 tag 1"],"text":1"#, "text"),
+        (r#","spans":["5 0 1 33 tag 1"],"text":1"#, "text"),
+        (r#","spans":null,"span":[]"#, "field"),
+        (r#","spans":[],"composing":false"#, "field"),
+    ];
+    for (more, want) in members {
+        let line = format!(in rt.alloc();
+            r#"{{"op":"replace","start":0,"end":1,"text":"a"{more}}}"#
+        )?;
+        let read = read_line(rt.alloc(), line.as_bytes());
+        let words = shown(rt.alloc(), &read)?;
+        assert_eq!(rt; words.as_str(), want, "at {more}");
+    }
+    Ok(())
+}
+
+#[test]
+fn a_span_is_four_numbers_and_a_what_with_one_space_between(rt: HostRuntime) -> Result<(), Fail> {
+    let spans = [
+        ("5 1 3 33 tag 7", "#5 1..3 33 Tag(7);"),
+        ("0 0 0 0 face 0", "#0 0..0 0 Face(0);"),
+        (
+            "4294967295 4294967295 4294967295 4294967295 watch 255",
+            "#4294967295 4294967295..4294967295 4294967295 Watch(255);",
+        ),
+        (
+            "1 2 3 4 margin 20 65535",
+            "#1 2..3 4 Margin { first: 20, rest: 65535 };",
+        ),
+        (
+            "1 2 3 4 float 65535 3",
+            "#1 2..3 4 Float { margin: 65535, lines: 3 };",
+        ),
+        ("5 3 3 33 tag 7", "#5 3..3 33 Tag(7);"),
+        ("5 4 3 33 tag 7", ""),
+        ("5 4294967295 0 33 tag 7", ""),
+        ("", ""),
+        ("5", ""),
+        ("5 1 3 33", ""),
+        ("5 1 3 33 ", ""),
+        ("5 1 3 33 tag", ""),
+        ("5 1 3 tag 7", ""),
+        ("5 1 3 33 34 tag 7", ""),
+        ("5 1 3 33 tag 7 8", ""),
+        ("5 1 3 33 margin 1", ""),
+        ("5 1 3 33 margin 1 2 3", ""),
+        ("5  1 3 33 tag 7", ""),
+        ("5 1 3 33  tag 7", ""),
+        ("5 1 3 33 tag  7", ""),
+        (" 5 1 3 33 tag 7", ""),
+        ("5 1 3 33 tag 7 ", ""),
+        ("5\\t1 3 33 tag 7", ""),
+        ("05 1 3 33 tag 7", ""),
+        ("5 01 3 33 tag 7", ""),
+        ("5 1 03 33 tag 7", ""),
+        ("5 1 3 033 tag 7", ""),
+        ("5 1 3 33 tag 07", ""),
+        ("5 00 3 33 tag 7", ""),
+        ("4294967296 1 3 33 tag 7", ""),
+        ("5 1 4294967296 33 tag 7", ""),
+        ("5 1 3 4294967296 tag 7", ""),
+        ("5 18446744073709551617 3 33 tag 7", ""),
+        ("-5 1 3 33 tag 7", ""),
+        ("5 -1 3 33 tag 7", ""),
+        ("5 1 +3 33 tag 7", ""),
+        ("5 1 3 0x21 tag 7", ""),
+        ("5.0 1 3 33 tag 7", ""),
+        ("\\u0665 1 3 33 tag 7", ""),
+        ("5 1 3 33 face 256", ""),
+        ("5 1 3 33 watch 256", ""),
+        ("5 1 3 33 margin 65536 0", ""),
+        ("5 1 3 33 Tag 7", ""),
+        ("5 1 3 33 sel-start", ""),
+        ("5 1 3 33 composing", ""),
+    ];
+    for (text, span) in spans {
+        let line = format!(in rt.alloc();
+            r#"{{"op":"replace","start":0,"end":0,"text":"","spans":["{text}"]}}"#
+        )?;
+        let read = read_line(rt.alloc(), line.as_bytes());
+        let words = shown(rt.alloc(), &read)?;
+        let mut want = String::from_str(rt.alloc(), "text")?;
+        if !span.is_empty() {
+            want = format!(in rt.alloc(); "replace 0 0 [] [{span}] false")?;
+        }
+        assert_eq!(rt; words, want, "at {text}");
+    }
+    Ok(())
+}
+
+// A replacement whose list has so many spans.
+fn crowded_line(alloc: Global, count: u32) -> Result<String, AllocError> {
+    let mut line = String::from_str(
+        alloc,
+        r#"{"op":"replace","start":0,"end":0,"text":"","spans":["0 0 0 0 tag 0""#,
+    )?;
+    for id in 1..count {
+        line.push_str(&format!(in alloc; r#","{id} 0 {id} 33 tag 7""#)?)?;
+    }
+    line.push_str("]}")?;
+    Ok(line)
+}
+
+#[test]
+fn a_line_brings_at_most_64_spans(rt: HostRuntime) -> Result<(), Fail> {
+    let line = crowded_line(rt.alloc(), 64)?;
+    let mut want = String::from_str(rt.alloc(), "replace 0 0 [] [#0 0..0 0 Tag(0);")?;
+    for id in 1..64 {
+        want.push_str(&format!(in rt.alloc(); "#{id} 0..{id} 33 Tag(7);")?)?;
+    }
+    want.push_str("] false")?;
+    let read = read_line(rt.alloc(), line.as_bytes());
+    assert_eq!(rt; shown(rt.alloc(), &read)?, want);
+    let line = crowded_line(rt.alloc(), 65)?;
+    let read = read_line(rt.alloc(), line.as_bytes());
+    assert_eq!(rt; shown(rt.alloc(), &read)?.as_str(), "text");
     Ok(())
 }

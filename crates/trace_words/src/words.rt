@@ -1,11 +1,59 @@
-//! What a span carries, in words.
+//! A span, and what it carries, in words.
 
 ghost use Rattle.std.specs.Prelude.{◌≡◌, [], ◌∷◌, MatchOption, decimal};
 ghost use Rattle.std.specs.Str.{bytes_eq};
-ghost use Rattle.edit_model.specs.Words.{words_of, whole_number, greatest_id, greatest_byte, greatest_metric, what_by_words, as_what};
+ghost use Rattle.edit_base.specs.declared.bounds.TheConstants.Limits.{METRIC};
+ghost use Rattle.edit_model.specs.Words.{words_of, whole_number, greatest_id, greatest_byte, what_by_words, as_what, ordered_span, span_by_words, as_span};
 
-use edit_base::What;
+use edit_base::{NewSpan, What};
 use itoa::Buffer;
+
+/// The span that `ID START END FLAGS WHAT` says, with one space between words.
+pub(crate) fn span_from(text: &str) -> Option<NewSpan>
+    ensures { result ≡ as_span text.now }
+{
+    let Some((id, behind)) = cut(text) else {
+        return None;
+    };
+    let Some((start, behind)) = cut(behind) else {
+        return None;
+    };
+    let Some((end, behind)) = cut(behind) else {
+        return None;
+    };
+    let Some((flags, what)) = cut(behind) else {
+        return None;
+    };
+    span_with(id, start, end, flags, what)
+}
+
+// The span of these four numbers and this what.
+fn span_with(id: &str, start: &str, end: &str, flags: &str, what: &str) -> Option<NewSpan>
+    ensures { result ≡ span_by_words (id.now ∷ start.now ∷ end.now ∷ flags.now ∷ words_of what.now) }
+{
+    let id = number_from(id)?;
+    let start = number_from(start)?;
+    let end = number_from(end)?;
+    let flags = number_from(flags)?;
+    ordered_span(id, start, end, flags, what_from(what)?)
+}
+
+// A span whose start isn't behind its end.
+fn ordered_span(id: u32, start: u32, end: u32, flags: u32, what: What) -> Option<NewSpan>
+    ensures { result ≡ ordered_span id start end flags what }
+{
+    if start <= end {
+        Some(NewSpan {
+            id,
+            start,
+            end,
+            flags,
+            what,
+        })
+    } else {
+        None
+    }
+}
 
 /// What `tag N`, `face N`, `watch N`, `margin N N` or `float N N` says, with one space between words.
 pub(crate) fn what_from(text: &str) -> Option<What>
@@ -69,7 +117,7 @@ fn byte_from(digits: &str) -> Option<u8>
 
 // A margin, or a number of lines.
 fn metric_from(digits: &str) -> Option<u16>
-    ensures { result ≡ whole_number greatest_metric digits.now }
+    ensures { result ≡ whole_number METRIC digits.now }
 {
     u16::try_from(number_from(digits)?).ok()
 }

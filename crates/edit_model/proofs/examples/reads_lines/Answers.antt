@@ -7,6 +7,10 @@ use Rattle.edit_model.specs.Words.{words_of}
 use Rattle.edit_model.specs.Reading.{read_command}
 use Rattle.edit_model.proofs.examples.reads_lines.Goals as goal
 
-pub returns : goal.returns
+pub returns-clause-lines : goal.returns-clause-lines
 unfolding serde_json_on_literals is_utf8 chars digits words_of read_command
-returns c = (refl, refl, refl, refl, refl, refl)
+returns-clause-lines c = (refl, refl, refl, refl, refl, refl)
+
+pub returns-clause-spans : goal.returns-clause-spans
+unfolding serde_json_on_literals is_utf8 chars digits words_of read_command
+returns-clause-spans c = (refl, refl)

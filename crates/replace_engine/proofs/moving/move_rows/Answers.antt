@@ -3,7 +3,8 @@ use Rattle.std.proofs.Common.{get_or, refl, ap, sym, ◌∙◌, arith}
 use Rattle.edit_base.specs.declared.kinds.What.TheVariants.{Tag}
 use Rattle.edit_base.specs.declared.rows.SpanRow.{SpanRow}
 use Rattle.edit_model.specs.Changed.{shift_of, has_moved}
-use Rattle.replace_engine.proofs.InPlace.{maps_read, moves_told, moves_untold}
+use Rattle.edit_model.proofs.InPlace.{maps_read}
+use Rattle.replace_engine.proofs.InPlace.{moves_told, moves_untold}
 use Rattle.replace_engine.proofs.Moves.{paragraph_at}
 use Rattle.replace_engine.proofs.moving.move_rows.Goals as goal
 use Rattle.replace_engine.proofs.moving.move_rows.Goals.{then-has_moved, else-has_moved}

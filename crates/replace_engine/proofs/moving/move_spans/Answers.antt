@@ -6,7 +6,8 @@ use Rattle.std.proofs.lemmas.List.Elements.{All-same, All-filter}
 use Rattle.edit_model.specs.Changed.{shift_of}
 use Rattle.replace_engine.specs.Rows.{spans_in}
 use Rattle.replace_engine.specs.Moved.{has_paragraph, moved_row, is_emptied_row, IsRowOver}
-use Rattle.replace_engine.proofs.Spans.{effect_from, written_over}
+use Rattle.edit_model.proofs.InPlace.{written_over}
+use Rattle.replace_engine.proofs.Spans.{effect_from}
 use Rattle.replace_engine.proofs.Moves.{paragraph_kept, emptied-rows, moved-rows, told-rows}
 use Rattle.replace_engine.proofs.moving.move_spans.Goals as goal
 

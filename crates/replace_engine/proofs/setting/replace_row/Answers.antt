@@ -4,7 +4,8 @@ use Rattle.std.proofs.lemmas.List.{length-map}
 use Rattle.edit_model.specs.Attached.{spans_of}
 use Rattle.edit_model.specs.Changed.{shift_of, shifts_by, span_of}
 use Rattle.replace_engine.specs.Rows.{spans_in, in_place}
-use Rattle.replace_engine.proofs.Spans.{effect_from, written_over, set-rows, shifts-in_place, set_effect-rows}
+use Rattle.edit_model.proofs.InPlace.{written_over}
+use Rattle.replace_engine.proofs.Spans.{effect_from, set-rows, shifts-in_place, set_effect-rows}
 use Rattle.replace_engine.proofs.setting.replace_row.Goals as goal
 
 pub returns-clause-rows : goal.returns-clause-rows

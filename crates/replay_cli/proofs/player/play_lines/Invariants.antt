@@ -9,8 +9,8 @@ use Rattle.replay_cli.proofs.player.play_lines.Given as goal
 abbrev pub invariant-loop-line : goal.invariant-loop-line
 invariant-loop-line g l =
     (l.number + length l.rest ≤ length l.fn.trace + 1)
-    × Reached (run_lines (close_of l.fn.is_cut l.fn.trace) 1 l.fn.text.state (lines_in l.fn.is_cut l.fn.trace))
-    (run_lines (close_of l.fn.is_cut l.fn.trace) l.number l.text.state (lines_in l.fn.is_cut l.rest)) (g.K.Sink.written l.fn.sink) (g.K.Sink.written l.sink)
+    × Reached (run_lines l.fn.settings (close_of l.fn.is_cut l.fn.trace) 1 l.fn.text.state (lines_in l.fn.is_cut l.fn.trace))
+    (run_lines l.fn.settings (close_of l.fn.is_cut l.fn.trace) l.number l.text.state (lines_in l.fn.is_cut l.rest)) (g.K.Sink.written l.fn.sink) (g.K.Sink.written l.sink)
     × (g.K.Sink.faults l.fn.sink ≤ g.K.Sink.faults l.sink)
     × (l.fn.is_cut ≡ true → open_line l.fn.trace ≡ open_line l.rest)
 

@@ -18,7 +18,7 @@ after c = search rules
 pub returns-clause-well_formed : goal.returns-clause-well_formed
 returns-clause-well_formed c =
     formed_as (stepped c.args.self.now.state (set_of c.args.asked.now)) _ _ (ap (λ state. state.units) (after c)) (ap (λ state. state.spans) (after c))
-    (well_formed-stepped c.args.self.now.state c.args.slots (set_of c.args.asked.now) c.requires.done (rw (← before c) c.self.invariant.formed))
+    (well_formed-stepped c.args.self.now.state c.args.slots (set_of c.args.asked.now) c.requires.done tt (rw (← before c) c.self.invariant.formed))
 
 pub invariant_of-self-2 : goal.invariant_of-self-2
 invariant_of-self-2 c = record { formed = returns-clause-well_formed c; room = c.set_row.ensures.told }

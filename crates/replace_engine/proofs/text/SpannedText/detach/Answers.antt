@@ -19,7 +19,7 @@ after c = search rules
 pub returns-clause-well_formed : goal.returns-clause-well_formed
 returns-clause-well_formed c =
     formed_as (stepped c.args.self.now.state (step.Remove c.args.id)) _ _ (ap (λ state. state.units) (after c)) (ap (λ state. state.spans) (after c))
-    (well_formed-stepped c.args.self.now.state 0 (step.Remove c.args.id) c.requires (rw (← before c) c.self.invariant.formed))
+    (well_formed-stepped c.args.self.now.state 0 (step.Remove c.args.id) c.requires tt (rw (← before c) c.self.invariant.formed))
 
 pub invariant_of-self : goal.invariant_of-self
 invariant_of-self c = sound_with _ _ _ c.self.inside.change (length c.self.inside.rows.items) c.remove_row.ensures.fewer c.remove_row.ensures.lists c.self.invariant.room (returns-clause-well_formed c)

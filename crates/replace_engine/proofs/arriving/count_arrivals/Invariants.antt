@@ -1,0 +1,10 @@
+-- The incoming spans so far that arrive.
+use Rattle.std.proofs.Common.{◌≡◌, ◌≤◌, take, length}
+use Rattle.replace_engine.specs.Arrivals.{arrivals, stayed}
+use Rattle.replace_engine.proofs.arriving.count_arrivals.Given as goal
+
+abbrev pub invariant-loop-at : goal.invariant-loop-at
+invariant-loop-at l = record {
+  count : l.count ≡ length (arrivals l.cut (stayed l.cut l.rows) (take l.at l.spans));
+  few : l.count ≤ l.at;
+}

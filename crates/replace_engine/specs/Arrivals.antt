@@ -1,0 +1,32 @@
+-- The incoming spans that a replacement attaches.
+use Rattle.std.specs.Prelude.{ℕ, ◌≤◌, ◌+◌, List, length, map}
+use Rattle.edit_base.specs.declared.rows.NewSpan.{NewSpan}
+use Rattle.edit_base.specs.declared.rows.SpanRow.{SpanRow}
+use Rattle.edit_model.specs.State.{Span}
+use Rattle.edit_model.specs.Replaced.{spliced, stayed_spans}
+use Rattle.edit_model.specs.Brought.{placed_span, newcomers}
+use Rattle.replace_engine.specs.declared.cut.Cut.{Cut}
+use Rattle.replace_engine.specs.Rows.{state_of}
+
+-- the text that stands then
+abbrev pub text_then : Cut → List ℕ
+text_then cut = spliced cut.units.now cut.start cut.end cut.brought.now
+
+-- an incoming span in that text
+abbrev pub placed : Cut → NewSpan → Span
+placed cut span = placed_span cut.start (length cut.brought.now) span
+
+-- those of some incoming spans that are attached behind others
+abbrev pub arrivals : Cut → List Span → List NewSpan → List Span
+arrivals cut attached spans = newcomers (text_then cut) attached (map (placed cut) spans)
+
+-- the rows' spans that aren't emptied, where they go
+abbrev pub stayed : Cut → List SpanRow → List Span
+stayed cut rows = stayed_spans (state_of cut.units.now rows) cut.start cut.end cut.grown
+
+-- both places lie among the units that come
+pub record IsAmong (cut : Cut) (row : SpanRow) : Type 0 where
+  pub start_least : cut.start ≤ row.start
+  pub start_greatest : row.start ≤ cut.start + cut.grown
+  pub end_least : cut.start ≤ row.end
+  pub end_greatest : row.end ≤ cut.start + cut.grown

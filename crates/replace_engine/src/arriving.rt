@@ -1,0 +1,159 @@
+//! The spans that a replacement brings: which of them are attached, and where.
+
+ghost use Rattle.std.specs.Prelude.{◌≡◌, ◌≤◌, ◌<◌, ◌+◌, ◌++◌, ◌&&◌, [], ◌∷◌, true, false, not, map, length, vec_len, vec_capacity};
+ghost use Rattle.std.specs.List.{list_any};
+ghost use Rattle.edit_model.specs.Attached.{has_id, is_attached};
+ghost use Rattle.edit_model.specs.Brought.{has_place, is_skipped};
+ghost use Rattle.edit_model.specs.Changed.{span_of};
+ghost use Rattle.replace_engine.specs.Arrivals.{IsAmong, arrivals, placed, stayed, text_then};
+ghost use Rattle.replace_engine.specs.Rows.{spans_in};
+
+use crate::cut::Cut;
+use crate::judging::is_attached;
+use crate::moving::is_emptied;
+use crate::room::push_within;
+use edit_base::{NewSpan, SpanRow};
+use span_flags::{Kind, kind_of_word};
+
+/// The incoming spans that are attached come behind the rows, one by one, and are told of.
+pub fn attach_spans(spans: &[NewSpan], cut: &Cut, rows: &mut Vec<SpanRow>, added: &mut Vec<SpanRow>)
+    requires none { added.old.items ≡ [] }
+    requires room { vec_len rows.old + length (arrivals cut.now (spans_in rows.old.items) spans.now) ≤ vec_capacity rows.old }
+    requires told { length (arrivals cut.now (spans_in rows.old.items) spans.now) ≤ vec_capacity added.old }
+    ensures rows { spans_in rows.new.items ≡ spans_in rows.old.items ++ arrivals cut.now (spans_in rows.old.items) spans.now }
+    ensures added { spans_in added.new.items ≡ arrivals cut.now (spans_in rows.old.items) spans.now }
+    ensures capacity { vec_capacity rows.old ≤ vec_capacity rows.new }
+    ensures kept { vec_capacity added.old ≤ vec_capacity added.new }
+{
+    for span in spans {
+        attach_span(span, cut, rows, added);
+    }
+}
+
+/// An incoming span comes behind the rows and is told of, unless it is skipped.
+fn attach_span(span: &NewSpan, cut: &Cut, rows: &mut Vec<SpanRow>, added: &mut Vec<SpanRow>)
+    requires room { vec_len rows.old + length (arrivals cut.now (spans_in rows.old.items) (span.now ∷ []))
+        ≤ vec_capacity rows.old }
+    requires told { vec_len added.old + length (arrivals cut.now (spans_in rows.old.items) (span.now ∷ []))
+        ≤ vec_capacity added.old }
+    ensures rows { spans_in rows.new.items
+        ≡ spans_in rows.old.items ++ arrivals cut.now (spans_in rows.old.items) (span.now ∷ []) }
+    ensures added { spans_in added.new.items
+        ≡ spans_in added.old.items ++ arrivals cut.now (spans_in rows.old.items) (span.now ∷ []) }
+    ensures capacity { vec_capacity rows.old ≤ vec_capacity rows.new }
+    ensures kept { vec_capacity added.old ≤ vec_capacity added.new }
+{
+    let row = placed_row(span, cut);
+    if is_skipped(&row, cut, rows) {
+        return;
+    }
+    push_within(added, row);
+    push_within(rows, row);
+}
+
+/// Whether an incoming span isn't attached behind these rows.
+fn is_skipped(row: &SpanRow, cut: &Cut, rows: &[SpanRow]) -> bool
+    requires { IsAmong cut.now row.now }
+    ensures { result ≡ is_skipped (text_then cut.now) (spans_in rows.now) (span_of row.now) }
+{
+    is_attached(rows, row.id) || !has_place(row, cut)
+}
+
+/// The row of an incoming span: clipped to the units that come, and moved by the place where they begin.
+fn placed_row(span: &NewSpan, cut: &Cut) -> SpanRow
+    ensures span { span_of result ≡ placed cut.now span.now }
+    ensures among { IsAmong cut.now result }
+{
+    SpanRow {
+        id: span.id,
+        start: cut.start + span.start.min(cut.grown),
+        end: cut.start + span.end.min(cut.grown),
+        flags: span.flags,
+        order: 0,
+        what: span.what,
+    }
+}
+
+/// Whether an incoming span may stand at its place: it isn't empty where it may not be, and a paragraph span stands at
+/// boundaries of the text that stands then.
+fn has_place(row: &SpanRow, cut: &Cut) -> bool
+    requires { IsAmong cut.now row.now }
+    ensures { result ≡ has_place (text_then cut.now) (span_of row.now) }
+{
+    match kind_of_word(row.flags) {
+        Kind::PointMark => row.start != row.end,
+        Kind::Paragraph => cut.is_boundary_then(row.start) && cut.is_boundary_then(row.end),
+        Kind::MarkMark | Kind::MarkPoint | Kind::PointPoint => true,
+    }
+}
+
+// ---- counted before anything changes
+
+/// How many spans stand after a replacement: those that aren't emptied, and the incoming ones that are attached.
+pub fn count_spans_then(spans: &[NewSpan], cut: &Cut, rows: &[SpanRow]) -> usize
+    requires few { length rows.now ≤ 4096 }
+    requires spans { length spans.now ≤ 1073741824 }
+    ensures count { result ≡ length (stayed cut.now rows.now ++ arrivals cut.now (stayed cut.now rows.now) spans.now) }
+    ensures few { result ≤ 4096 + length spans.now }
+{
+    count_kept(rows, cut) + count_arrivals(spans, cut, rows)
+}
+
+/// How many rows aren't emptied.
+pub fn count_kept(rows: &[SpanRow], cut: &Cut) -> usize
+    ensures count { result ≡ length (stayed cut.now rows.now) }
+    ensures few { result ≤ length rows.now }
+{
+    let mut count = 0;
+    for row in rows {
+        if !is_emptied(row, cut) {
+            count += 1;
+        }
+    }
+    count
+}
+
+/// How many of the incoming spans are attached.
+pub fn count_arrivals(spans: &[NewSpan], cut: &Cut, rows: &[SpanRow]) -> usize
+    ensures count { result ≡ length (arrivals cut.now (stayed cut.now rows.now) spans.now) }
+    ensures few { result ≤ length spans.now }
+{
+    let mut count = 0;
+    for (at, span) in spans.iter().enumerate() {
+        if arrives(span, &spans[..at], cut, rows) {
+            count += 1;
+        }
+    }
+    count
+}
+
+/// Whether an incoming span is attached behind the rows and the incoming spans before it.
+fn arrives(span: &NewSpan, before: &[NewSpan], cut: &Cut, rows: &[SpanRow]) -> bool
+    ensures { result ≡ not (is_skipped (text_then cut.now)
+        (stayed cut.now rows.now ++ arrivals cut.now (stayed cut.now rows.now) before.now) (placed cut.now span.now)) }
+{
+    !is_taken(span.id, before, cut, rows) && has_place(&placed_row(span, cut), cut)
+}
+
+/// Whether a span with this id is attached behind the rows and some of the incoming spans.
+#[tactic(auto, using(crate::proofs::Arrived::arrived))]
+fn is_taken(id: u32, before: &[NewSpan], cut: &Cut, rows: &[SpanRow]) -> bool
+    ensures { result ≡ is_attached id (stayed cut.now rows.now ++ arrivals cut.now (stayed cut.now rows.now) before.now) }
+{
+    stays(rows, cut, id) || is_brought(before, cut, id)
+}
+
+/// Whether a span with this id is attached and isn't emptied.
+fn stays(rows: &[SpanRow], cut: &Cut, id: u32) -> bool
+    ensures { result ≡ is_attached id (stayed cut.now rows.now) }
+{
+    rows.iter().any(|row| row.id == id && !is_emptied(row, cut))
+}
+
+/// Whether one of these incoming spans has this id and may stand at its place.
+fn is_brought(before: &[NewSpan], cut: &Cut, id: u32) -> bool
+    ensures { result ≡ list_any (λ span. has_id id span && has_place (text_then cut.now) span)
+        (map (placed cut.now) before.now) }
+{
+    before.iter().any(|span| span.id == id && has_place(&placed_row(span, cut), cut))
+}

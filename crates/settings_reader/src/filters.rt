@@ -1,0 +1,109 @@
+//! The filters of a settings file.
+
+ghost use Rattle.std.specs.Prelude.{◌≡◌, ◌≤◌, [], ◌∷◌, codes, length, IfOk, Ok};
+ghost use Rattle.toml.specs.View.{view, items_view, table_view};
+ghost use Rattle.edit_base.specs.declared.bounds.TheConstants.Limits.{FILTERS};
+ghost use Rattle.edit_model.specs.Settings.{only as only_keys, filters_of as filters_by, tables_of as tables_by, each_of, filter_in as filter_by, filter_of as filter_by_table, filter_by_kind as filter_of_kind, length_filter as length_by, allow_filter as allow_by};
+ghost use Rattle.settings_reader.specs.Faults.{Gives, Finds};
+
+use crate::arrays::{are_tables, few_of, values_of};
+use crate::keys::{number_of, only, value_at};
+use crate::ranges::ranges_of;
+use edit_base::{Items, Limits};
+use edit_model::{Filter, SettingsFault};
+use std::alloc::Global;
+use toml::{Table, Value};
+
+/// The filters of an array of tables, in its order.
+///
+/// # Errors
+/// `Value` where the value is no array, or one of its values is no table; then `Limit` where there are more than 8;
+/// then the first fault of the first table that has one.
+pub(crate) fn filters_of(alloc: Global, value: &Value) -> Result<Items<Filter>, SettingsFault>
+    ensures filters { Gives (filters_by (view value.now)) result }
+    ensures few { IfOk result (λ filters. length filters ≤ 8) }
+{
+    let tables = tables_of(value)?;
+    each_filter(alloc, tables)
+}
+
+fn tables_of(value: &Value) -> Result<&[Value], SettingsFault>
+    ensures tables { Finds (λ tables. items_view tables.now) (tables_by FILTERS (view value.now)) result }
+    ensures few { IfOk result (λ tables. length tables.now ≤ 8) }
+{
+    let values = values_of(value)?;
+    if !are_tables(values) {
+        return Err(SettingsFault::Value);
+    }
+    few_of(values, Limits::FILTERS)
+}
+
+fn each_filter(alloc: Global, tables: &[Value]) -> Result<Items<Filter>, SettingsFault>
+    ensures filters { Gives (each_of filter_by (items_view tables.now)) result }
+    ensures few { IfOk result (λ filters. length filters ≤ length tables.now) }
+{
+    let mut filters = Items::from_vec(Vec::new(alloc));
+    for table in tables {
+        filters
+            .push(filter_in(alloc, table)?)
+            .map_err(|_| SettingsFault::NoMemory)?;
+    }
+    Ok(filters)
+}
+
+fn filter_in(alloc: Global, value: &Value) -> Result<Filter, SettingsFault>
+    ensures { Gives (filter_by (view value.now)) result }
+{
+    match value.as_table() {
+        Some(table) => filter_of(alloc, table),
+        None => Err(SettingsFault::Value),
+    }
+}
+
+fn filter_of(alloc: Global, table: &Table) -> Result<Filter, SettingsFault>
+    ensures { Gives (filter_by_table (table_view table.now)) result }
+{
+    let kind = value_at(table, "kind")?;
+    match kind.as_str() {
+        Some(kind) => filter_by_kind(alloc, table, kind),
+        None => Err(SettingsFault::Value),
+    }
+}
+
+fn filter_by_kind(alloc: Global, table: &Table, kind: &str) -> Result<Filter, SettingsFault>
+    ensures { Gives (filter_of_kind (table_view table.now) kind.now) result }
+{
+    match kind {
+        "length" => length_filter(table),
+        "upper" => plain_filter(table, Filter::AsciiUpper),
+        "allow" => allow_filter(alloc, table),
+        "no-newline" => plain_filter(table, Filter::NoNewline),
+        _ => Err(SettingsFault::Value),
+    }
+}
+
+// A filter that takes no key.
+fn plain_filter(table: &Table, filter: Filter) -> Result<Filter, SettingsFault>
+    ensures { result ≡ only_keys (codes "kind" ∷ []) (table_view table.now) (Ok filter) }
+{
+    only(table, &["kind"])?;
+    Ok(filter)
+}
+
+fn length_filter(table: &Table) -> Result<Filter, SettingsFault>
+    ensures { result ≡ only_keys (codes "kind" ∷ codes "max" ∷ []) (table_view table.now)
+        (length_by (table_view table.now)) }
+{
+    only(table, &["kind", "max"])?;
+    let most = value_at(table, "max")?;
+    Ok(Filter::Length(number_of(most, 0, Limits::TEXT)?))
+}
+
+fn allow_filter(alloc: Global, table: &Table) -> Result<Filter, SettingsFault>
+    ensures { Gives (only_keys (codes "kind" ∷ codes "ranges" ∷ []) (table_view table.now)
+        (allow_by (table_view table.now))) result }
+{
+    only(table, &["kind", "ranges"])?;
+    let ranges = value_at(table, "ranges")?;
+    Ok(Filter::Allow(ranges_of(alloc, ranges)?))
+}
