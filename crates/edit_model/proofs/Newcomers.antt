@@ -1,6 +1,6 @@
 -- The incoming spans that are attached.
-use Rattle.std.proofs.Common.{◌≡◌, ◌≢◌, ℕ, ◌+◌, ◌<◌, ◌≤◌, ◌&&◌, ◌||◌, Bool, true, false, not, cond, eqb, List, [], ◌∷◌, ◌++◌, map, length, refl, sym, ap, ◌∙◌, subst, arith, append_assoc, append-nil}
-use Rattle.std.specs.List.{All, AllByRecursion, list_any}
+use Rattle.std.proofs.Common.{◌≡◌, ◌≢◌, ℕ, ◌+◌, ◌<◌, ◌≤◌, ◌&&◌, ◌||◌, Bool, true, false, not, cond, eqb, List, [], ◌∷◌, ◌++◌, map, take, length, refl, sym, ap, ◌∙◌, subst, arith, append_assoc, append-nil}
+use Rattle.std.specs.List.{All, AllByRecursion, filter, list_any}
 use Rattle.std.proofs.lemmas.Bool.{or_parts, not-false, eqb-true, ne_eqb}
 use Rattle.std.proofs.lemmas.Bool.Decides.{nat_tests}
 use Rattle.std.proofs.lemmas.List.Elements.{recursion_from_All}
@@ -11,7 +11,7 @@ use Rattle.edit_base.specs.declared.rows.NewSpan.{NewSpan}
 use Rattle.edit_model.specs.State.{Span}
 use Rattle.edit_model.specs.Flags.{kind_of, is_bad, is_point_mark, is_paragraph}
 use Rattle.edit_model.specs.Boundaries.{is_boundary}
-use Rattle.edit_model.specs.Attached.{has_id, is_attached}
+use Rattle.edit_model.specs.Attached.{has_id, is_attached, spans_of}
 use Rattle.edit_model.specs.Over.{is_watch}
 use Rattle.edit_model.specs.Brought.{IsOrdered, placed_span, has_place, is_skipped, newcomers, brought_spans}
 use Rattle.edit_model.specs.WellFormed.{IsSpanOver, IsKeptRight, HasDistinctIds, HasSlot, HasOtherSeat, HasDistinctSeats, is_kept_what}
@@ -118,6 +118,57 @@ module _ (units : List ℕ) where
       (λ kept. attached-newcomers id (attached ++ span ∷ []) spans
       ∙ ap (λ here. here || rest) (attached-append id attached (span ∷ []))
       ∙ kept_id (has_id id span) (has_place units span) (is_attached id attached) rest (not-false _ (or_parts (is_attached span.id attached) (not (has_place units span)) kept).1))
+
+-- ---- the first of an id
+
+abbrev first_one : Bool → List Span → List Span
+first_one attached found = cond attached [] (take 1 found)
+
+module _ (units : List ℕ) (id : ℕ) where
+  abbrev brings : Span → Bool
+  brings span = has_id id span && has_place units span
+
+  -- a span that is skipped isn't the first of its id, or its id is attached
+  past_skipped : (same has here there : Bool) (span : Span) (found : List Span) → (same ≡ true → here ≡ there) → (there || not has) ≡ true
+      → first_one here found ≡ first_one here (cond (same && has) (span ∷ found) found)
+  past_skipped false has here there span found one skipped = refl
+  past_skipped true false here there span found one skipped = refl
+  past_skipped true true true there span found one skipped = refl
+  past_skipped true true false true span found one skipped = let h = one refl in absurd (cc)
+  past_skipped true true false false span found one skipped = absurd (cc)
+
+  -- one that isn't is the first of its id
+  first_kept_span : (same has here : Bool) (span : Span) (rest found : List Span) → (same ≡ true → here ≡ false) → has ≡ true → rest ≡ first_one (here || (same || false)) found
+      → cond same (span ∷ rest) rest ≡ first_one here (cond (same && has) (span ∷ found) found)
+  first_kept_span true true true span rest found one is rest_is = let h = one refl in absurd (cc)
+  first_kept_span true true false span rest found one is rest_is = ap (λ others. span ∷ others) rest_is
+  first_kept_span false true true span rest found one is rest_is = rest_is
+  first_kept_span false true false span rest found one is rest_is = rest_is
+  first_kept_span same false here span rest found one is rest_is = absurd (cc)
+
+  by_skipped : (test : Bool) (skipped added found : List Span) (span : Span) → (test ≡ true → spans_of id skipped ≡ found) → (test ≡ false → cond (has_id id span) (span ∷ spans_of id added) (spans_of id added) ≡ found)
+      → spans_of id (cond test skipped (span ∷ added)) ≡ found
+  by_skipped true skipped added found span here there = here refl
+  by_skipped false skipped added found span here there = there refl
+
+  same_attached : (attached : List Span) (span : Span) → has_id id span ≡ true → is_attached id attached ≡ is_attached span.id attached
+  same_attached attached span same = ap (λ one. is_attached one attached) (sym (eqb-true span.id id same))
+
+  -- of the spans of an id the first that has a place is attached, where the id isn't
+  pub first-newcomers : (attached spans : List Span) → spans_of id (newcomers units attached spans) ≡ first_one (is_attached id attached) (filter brings spans)
+  first-newcomers attached [] = none (is_attached id attached)
+    where
+      none : (test : Bool) → [] ≡ first_one test []
+      none true = refl
+      none false = refl
+  first-newcomers attached (span ∷ spans) =
+      by_skipped (is_skipped units attached span) (newcomers units attached spans) (newcomers units (attached ++ span ∷ []) spans) (first_one (is_attached id attached) (filter brings (span ∷ spans))) span
+      (λ skipped. first-newcomers attached spans
+      ∙ past_skipped (has_id id span) (has_place units span) (is_attached id attached) (is_attached span.id attached) span (filter brings spans) (same_attached attached span) skipped)
+      (λ kept. let parts = or_parts (is_attached span.id attached) (not (has_place units span)) kept in
+      first_kept_span (has_id id span) (has_place units span) (is_attached id attached) span (spans_of id (newcomers units (attached ++ span ∷ []) spans)) (filter brings spans)
+      (λ same. same_attached attached span same ∙ parts.0) (not-false _ parts.1)
+      (first-newcomers (attached ++ span ∷ []) spans ∙ ap (λ here. first_one here (filter brings spans)) (attached-append id attached (span ∷ []))))
 
 -- attached spans and newcomers have distinct ids
 distinct_by : (test : Bool) (attached skipped added : List Span) (span : Span) → (test ≡ true → HasDistinctIds (attached ++ skipped)) → (test ≡ false → HasDistinctIds ((attached ++ span ∷ []) ++ added))

@@ -1,5 +1,5 @@
 -- What the definitions mean, as laws.
-use Rattle.std.specs.Prelude.{ℕ, ◌≡◌, ◌≢◌, ◌<◌, ◌≤◌, ◌+◌, ◌&&◌, ◌⊎◌, ◌++◌, true, false, List, [], ◌∷◌, length, slice_index, IfOk}
+use Rattle.std.specs.Prelude.{ℕ, ◌≡◌, ◌≢◌, ◌<◌, ◌≤◌, ◌+◌, ◌&&◌, ◌⊎◌, ◌++◌, true, false, List, [], ◌∷◌, length, take, filter, slice_index, if◌then◌else◌, IfOk}
 use Rattle.std.specs.List.{flat_map, All, AllByRecursion}
 use Rattle.edit_base.specs.declared.rows.Incoming.{Incoming}
 use Rattle.edit_base.specs.declared.verdicts.Verdict.TheVariants.{Done}
@@ -10,7 +10,7 @@ use Rattle.edit_model.specs.declared.filters.Filter.{Filter}
 use Rattle.edit_model.specs.declared.filters.Filter.TheVariants.{Length}
 use Rattle.edit_model.specs.declared.steps.Step.{Step}
 use Rattle.edit_model.specs.declared.steps.Step.TheVariants as step
-use Rattle.edit_model.specs.State.{State}
+use Rattle.edit_model.specs.State.{Span, State}
 use Rattle.edit_model.specs.Flags.{start_kind, end_kind, is_point_mark, is_paragraph}
 use Rattle.edit_model.specs.Boundaries.{is_boundary, next_boundary}
 use Rattle.edit_model.specs.EndTable.{end_of}
@@ -18,7 +18,8 @@ use Rattle.edit_model.specs.Replaced.{spliced, spliced_length}
 use Rattle.edit_model.specs.WellFormed.{IsWellFormed, IsSeated}
 use Rattle.edit_model.specs.Verdicts.{judged}
 use Rattle.edit_model.specs.Changed.{state_after}
-use Rattle.edit_model.specs.Brought.{IsOrdered, IsBrought}
+use Rattle.edit_model.specs.Attached.{has_id, is_attached, spans_of}
+use Rattle.edit_model.specs.Brought.{IsOrdered, IsBrought, has_place, newcomers}
 use Rattle.edit_model.specs.Filtered.{is_high, is_low, passed, kept_before, filtered}
 use Rattle.edit_model.specs.Lines.{trace_lines}
 use Rattle.edit_model.specs.Reading.{read_command, IsFitting}
@@ -42,6 +43,13 @@ KeepsWellFormed = (state : State) (slots : ℕ) (asked : Step) → BringsOrdered
 -- and each watcher keeps a seat of its own
 abbrev pub KeepsSeats : Type 0
 KeepsSeats = (state : State) (slots : ℕ) (asked : Step) → IsWellFormed state → IsSeated slots state.spans → IsSeated slots (state_after state slots asked).spans
+
+-- ---- incoming spans
+
+-- of the spans of an id that come, none is attached where the id is attached already, and else the first that has a place
+abbrev pub AttachesFirst : Type 0
+AttachesFirst = (units : List ℕ) (attached spans : List Span) (id : ℕ) → spans_of id (newcomers units attached spans)
+    ≡ (if is_attached id attached then [] else take 1 (filter (λ span. has_id id span && has_place units span) spans))
 
 -- ---- filters
 

@@ -1,6 +1,6 @@
 //! What the definitions mean: each law is the contract of a function that does nothing.
 
-ghost use Rattle.edit_model.specs.Laws.{OthersChangeNothing, KeepsWellFormed, KeepsSeats, StaysInText, KeepsOrder, KeepsBoundaries, PullsToLeast, TakesPlaces, LeavesPlaces, CutsNoPair, KeepsLength, FiltersBrought, CutsAtNewlines, ReadsFittingCommands};
+ghost use Rattle.edit_model.specs.Laws.{OthersChangeNothing, KeepsWellFormed, KeepsSeats, StaysInText, KeepsOrder, KeepsBoundaries, PullsToLeast, AttachesFirst, TakesPlaces, LeavesPlaces, CutsNoPair, KeepsLength, FiltersBrought, CutsAtNewlines, ReadsFittingCommands};
 
 /// Only an edit whose verdict is done changes the state.
 pub fn edits_that_are_not_done_change_nothing()
@@ -20,6 +20,12 @@ pub fn ends_stay_where_they_may()
     ensures in_order { KeepsOrder }
     ensures at_boundaries { KeepsBoundaries }
     ensures least { PullsToLeast }
+{}
+
+/// Of the incoming spans of one id at most one is attached: the first that may stand where it would, unless a span of this
+/// id is there.
+pub fn incoming_spans_are_attached_once()
+    ensures { AttachesFirst }
 {}
 
 /// A filter takes places in order to places of what it keeps, and where it keeps all, it leaves them alone. A length

@@ -23,7 +23,7 @@ pub use kinds::{EndKind, Kind};
 pub use laws::{
     commands_bring_what_fits, edits_keep_states_well_formed,
     edits_that_are_not_done_change_nothing, ends_stay_where_they_may, filters_keep_places,
-    lines_are_cut_at_newlines,
+    incoming_spans_are_attached_once, lines_are_cut_at_newlines,
 };
 pub use replies::Reply;
 pub use settings::Settings;

@@ -1,7 +1,8 @@
 -- Incoming spans, one by one.
 use Rattle.std.proofs.Common.{◌≡◌, ℕ, ◌+◌, ◌<◌, ◌≤◌, ◌&&◌, ◌||◌, Bool, true, false, not, cond, List, [], ◌∷◌, ◌++◌, map, take, drop, length, get_or, refl, sym, ap, ◌∙◌, arith}
 use Rattle.std.specs.List.{list_any}
-use Rattle.std.proofs.lemmas.List.{length-append, map-append, map_more, take-append-drop}
+use Rattle.std.proofs.lemmas.List.Filters.{length-filter_both}
+use Rattle.std.proofs.lemmas.List.{length-map, length-append, map-append, map_more, take-append-drop}
 use Rattle.edit_base.specs.declared.rows.NewSpan.{NewSpan}
 use Rattle.edit_base.specs.declared.rows.SpanRow.{SpanRow}
 use Rattle.edit_model.specs.State.{Span}
@@ -40,7 +41,18 @@ pub attached-arrivals : (cut : Cut) (id : ℕ) (attached : List Span) (spans : L
     ≡ (is_attached id attached || list_any (λ span. has_id id span && has_place (text_then cut) span) (map (placed cut) spans))
 attached-arrivals cut id attached spans = attached-newcomers (text_then cut) id attached (map (placed cut) spans)
 
-pub ruleset arrived = (attached-arrivals)
+-- no more spans stay than there were
+pub length-stayed-le : (cut : Cut) (rows : List SpanRow) → length (stayed cut rows) ≤ length rows
+length-stayed-le cut rows =
+    let spans : List Span = spans_in rows in
+    omega (
+      arith,
+      length-map (kept_spans cut.start cut.end cut.grown spans) (moved_span cut.start cut.end cut.grown cut.units.now),
+      length-filter_both (is_emptied cut.start cut.end cut.grown) (λ span. not (is_emptied cut.start cut.end cut.grown span)) (λ span. refl) spans,
+      length-map rows span_of,
+    )
+
+pub ruleset arrived = (attached-arrivals, length-stayed-le)
 
 -- ---- one more span of a list
 

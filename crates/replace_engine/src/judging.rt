@@ -1,6 +1,6 @@
 //! The verdicts of edits: each the first line of a table that applies.
 
-ghost use Rattle.std.specs.Prelude.{ℕ, List, pos, ◌≤ℤ◌, ◌≡◌, ◌≤◌, ◌<◌, ◌&&◌, not, [], length};
+ghost use Rattle.std.specs.Prelude.{ℕ, List, pos, ◌≤ℤ◌, ◌≡◌, ◌≤◌, ◌+◌, nat_lt, ◌<◌, ◌&&◌, not, [], length};
 ghost use Rattle.std.specs.List.{list_any};
 ghost use Rattle.edit_base.specs.declared.verdicts.Verdict.TheVariants.{Done};
 ghost use Rattle.edit_model.specs.declared.steps.Step.TheVariants.{Replace, Set, Remove};
@@ -13,6 +13,8 @@ ghost use Rattle.edit_model.specs.Verdicts.{first_of, is_reserved, judged, lacks
 ghost use Rattle.edit_model.specs.Over.{is_watch};
 ghost use Rattle.edit_model.specs.WellFormed.{is_kept_what};
 ghost use Rattle.replace_engine.specs.Rows.{spans_in, state_of};
+ghost use Rattle.edit_base.specs.declared.bounds.TheConstants.Limits.{SPANS};
+ghost use Rattle.replace_engine.specs.Arrivals.{stayed};
 ghost use Rattle.replace_engine.specs.Lines.{kind_lines, place_lines, range_lines, exchange_lines, span_lines};
 
 use crate::arriving::{count_arrivals, count_kept};
@@ -138,11 +140,19 @@ fn judge_spans(rows: &[SpanRow], cut: &Cut, spans: &[NewSpan]) -> Verdict
     if cut.start == cut.end && cut.grown == 0 && arrivals == 0 {
         return Verdict::NoChange;
     }
-    let stayed = count_kept(rows, cut);
-    if arrivals > Limits::SPANS as usize - stayed {
+    if is_full(rows, cut, arrivals) {
         return Verdict::Refused(Refusal::SpansFull);
     }
     Verdict::Done
+}
+
+/// Whether too many spans would stand with so many that arrive. Where none does, nothing is counted.
+#[tactic(auto, using(crate::proofs::Arrived::arrived))]
+fn is_full(rows: &[SpanRow], cut: &Cut, arrivals: usize) -> bool
+    requires { length rows.now ≤ 4096 }
+    ensures { result ≡ nat_lt SPANS (length (stayed cut.now rows.now) + arrivals) }
+{
+    arrivals > 0 && arrivals > Limits::SPANS as usize - count_kept(rows, cut)
 }
 
 /// The verdict of a set, with so many watchers loaded.
