@@ -18,7 +18,7 @@ pub use kinds::What;
 pub use list::Items;
 pub use memory::NoMemory;
 pub use rows::{Incoming, NewSpan, Pick, SpanRow};
-pub use units::{Place, Unit, is_high, is_low, units_of};
+pub use units::{NEWLINE, Place, Unit, is_high, is_low, units_of};
 pub use verdicts::{Refusal, Verdict};
 
 #[cfg(test)]

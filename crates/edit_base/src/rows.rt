@@ -33,6 +33,11 @@ pub struct Incoming {
     pub composing: bool,
 }
 
+impl Incoming {
+    /// Units, and spans, that a replacement may bring.
+    pub const MOST: u32 = 1_073_741_824;
+}
+
 /// Which spans a query asks for.
 #[derive(Clone, Copy, Debug, PartialEq, Eq)]
 pub enum Pick {

@@ -14,6 +14,9 @@ pub type Unit = u16;
 /// A place in a text: how many units stand before it.
 pub type Place = u32;
 
+/// The unit that ends a paragraph.
+pub const NEWLINE: u16 = 10;
+
 /// Whether a unit is the first of a surrogate pair.
 pub fn is_high(unit: u16) -> bool
     ensures { IsTrue result ↔ ((0xD800 ≤ unit) × (unit < 0xDC00)) }

@@ -1,7 +1,7 @@
 -- Spans set and removed in well formed states.
 use Rattle.std.proofs.Common.{◌≡◌, ◌≢◌, ℕ, ◌<◌, ◌≤◌, ◌&&◌, Bool, true, false, not, cond, ltb, List, [], ◌∷◌, ◌++◌, map, length, refl, sym, ◌∙◌, arith}
 use Rattle.std.specs.List.{AllByRecursion, list_any}
-use Rattle.std.proofs.lemmas.Bool.{or_parts, not-false, eqb-true, eqb-false, ltb-true, ne_eqb, not_from_false}
+use Rattle.std.proofs.lemmas.Bool.{cond_both, or_parts, not-false, eqb-true, eqb-false, ltb-true, ne_eqb, not_from_false}
 use Rattle.std.proofs.lemmas.List.{length-map, length_push}
 use Rattle.std.proofs.lemmas.List.Filters.{length-filter_both}
 use Rattle.edit_base.specs.declared.kinds.What.{What}
@@ -10,7 +10,7 @@ use Rattle.edit_base.specs.declared.bounds.TheConstants.Limits.{SPANS}
 use Rattle.edit_model.specs.State.{Span, State}
 use Rattle.edit_model.specs.Attached.{has_id, is_attached, with_span, without_span}
 use Rattle.edit_model.specs.WellFormed.{IsSpanOver, HasDistinctIds, IsWellFormed, HasSlot, HasOtherSeat, HasDistinctSeats, IsSeated}
-use Rattle.edit_model.specs.Verdicts.{watches, lacks_slot, spans_after}
+use Rattle.edit_model.specs.Verdicts.{watches, lacks_slot, span_count_after_set}
 use Rattle.edit_model.proofs.SpanLists.{all-filter, all-push, all-map, all-both, all-weaker, all_each, all_fail, distinct-filter, distinct-map, distinct-push, attached-filter, attached-map, attached-push, seats-filter, seats-push, other_seat-sym}
 
 -- ---- a span in the place of another
@@ -19,28 +19,22 @@ use Rattle.edit_model.proofs.SpanLists.{all-filter, all-push, all-map, all-both,
 in_place : Span → Span → Span
 in_place span other = cond (has_id span.id other) span other
 
-at_cond : {X Y : Type 0} (f : X → Y) (test : Bool) (x y : X) (z : Y) → (test ≡ true → f x ≡ z) → (test ≡ false → f y ≡ z) → f (cond test x y) ≡ z
-at_cond f true x y z here there = here refl
-at_cond f false x y z here there = there refl
-
 id-in_place : (span other : Span) → (in_place span other).id ≡ other.id
 unfolding in_place
-id-in_place span other = at_cond (λ one. one.id) (has_id span.id other) span other other.id (λ is. sym (eqb-true _ _ is)) (λ is. refl)
+id-in_place span other = cond_both (has_id span.id other) span other (λ one. one.id ≡ other.id) (λ is. sym (eqb-true _ _ is)) (λ is. refl)
 
 -- what holds of the span and of another holds of the one in place
 all_in_place : (P : Span → Type 0) (test : Bool) (span other : Span) → P span → P other → P (cond test span other)
-all_in_place P true span other here there = here
-all_in_place P false span other here there = there
+all_in_place P test span other here there = cond_both test span other P (λ is. here) (λ is. there)
 
 -- what holds of a list with the span and of one behind it holds of the list with the span set
-by_place : (P : List Span → Type 0) (span : Span) (spans : List Span) → (is_attached span.id spans ≡ true → P (map (in_place span) spans)) → (is_attached span.id spans ≡ false → P (spans ++ span ∷ []))
+by_place : (P : List Span → Type 0) (span : Span) (spans : List Span)
+    → (is_attached span.id spans ≡ true → P (map (in_place span) spans))
+    → (is_attached span.id spans ≡ false → P (spans ++ span ∷ []))
     → P (with_span span spans)
 unfolding in_place
-by_place P span spans placed pushed = by_test (is_attached span.id spans) placed pushed
-  where
-    by_test : (test : Bool) → (test ≡ true → P (map (in_place span) spans)) → (test ≡ false → P (spans ++ span ∷ [])) → P (cond test (map (in_place span) spans) (spans ++ span ∷ []))
-    by_test true placed pushed = placed refl
-    by_test false placed pushed = pushed refl
+by_place P span spans placed pushed =
+    cond_both (is_attached span.id spans) (map (in_place span) spans) (spans ++ span ∷ []) P placed pushed
 
 pub all-with_span : (P : Span → Type 0) (span : Span) (spans : List Span) → P span → AllByRecursion P spans → AllByRecursion P (with_span span spans)
 unfolding in_place
@@ -59,8 +53,9 @@ attached-with_span id span spans other = by_place (λ list. is_attached id list 
     (λ attached. attached-map (in_place span) (id-in_place span) id spans)
     (λ absent. attached-push id span spans other)
 
-pub length-with_span : (units : List ℕ) (span : Span) (spans : List Span) → length (with_span span spans) ≡ spans_after (record { units = units; spans = spans }) span.id
-length-with_span units span spans = by_place (λ list. length list ≡ spans_after (record { units = units; spans = spans }) span.id) span spans
+pub length-with_span : (units : List ℕ) (span : Span) (spans : List Span)
+    → length (with_span span spans) ≡ span_count_after_set (record { units = units; spans = spans }) span.id
+length-with_span units span spans = by_place (λ list. length list ≡ span_count_after_set (record { units = units; spans = spans }) span.id) span spans
     (λ attached. rw attached (length-map spans (in_place span)))
     (λ absent. rw absent (length_push spans span))
 
@@ -110,12 +105,14 @@ module _ (span : Span) where
   seats_at true first spans is here unique apart alone =
       let same : first.id ≡ span.id = eqb-true _ _ is in
       let away = all_fail (has_id span.id) spans (rw same at unique) in
-      all-map (λ other. (has_id span.id other ≡ false) × (has_id span.id other ≡ false → HasOtherSeat span.what other.what)) (λ other. HasOtherSeat span.what other.what)
+      all-map (λ other. (has_id span.id other ≡ false) × (has_id span.id other ≡ false → HasOtherSeat span.what other.what))
+      (λ other. HasOtherSeat span.what other.what)
       (in_place span) (λ other both. rw both.0 (both.1 both.0)) spans
       (all-both (λ other. has_id span.id other ≡ false) (λ other. has_id span.id other ≡ false → HasOtherSeat span.what other.what) spans away alone)
   seats_at false first spans is here unique apart alone =
       all-map (λ other. HasOtherSeat first.what other.what) (λ other. HasOtherSeat first.what other.what) (in_place span)
-      (λ other apart_here. all_in_place (λ one. HasOtherSeat first.what one.what) (has_id span.id other) span other (other_seat-sym span.what first.what (here refl)) apart_here) spans apart
+      (λ other apart_here. all_in_place (λ one. HasOtherSeat first.what one.what) (has_id span.id other) span other
+      (other_seat-sym span.what first.what (here refl)) apart_here) spans apart
 
   seats-in_place : (spans : List Span) → SitsAlone span spans → HasDistinctIds spans → HasDistinctSeats spans → HasDistinctSeats (map (in_place span) spans)
   unfolding in_place
@@ -129,45 +126,48 @@ module _ (span : Span) where
   seats-with_span spans alone distinct apart = by_place HasDistinctSeats span spans
       (λ attached. seats-in_place spans alone distinct apart)
       (λ absent. seats-push span spans
-      (all-weaker (λ other. (has_id span.id other ≡ false) × (has_id span.id other ≡ false → HasOtherSeat span.what other.what)) (λ other. HasOtherSeat other.what span.what)
+      (all-weaker (λ other. (has_id span.id other ≡ false) × (has_id span.id other ≡ false → HasOtherSeat span.what other.what))
+      (λ other. HasOtherSeat other.what span.what)
       (λ other both. other_seat-sym span.what other.what (both.1 both.0)) spans
       (all-both (λ other. has_id span.id other ≡ false) (λ other. has_id span.id other ≡ false → HasOtherSeat span.what other.what) spans
       (all_fail (has_id span.id) spans absent) alone)) apart)
 
 -- ---- states
 
-pub well_formed-with_span : (state : State) (span : Span) → IsSpanOver state.units span → 2 < span.id → spans_after state span.id ≤ SPANS → IsWellFormed state
+pub well_formed-with_span : (state : State) (slots : ℕ) (span : Span) → IsSpanOver state.units span → 2 < span.id
+    → lacks_slot state slots span.id span.what ≡ false → span_count_after_set state span.id ≤ SPANS → IsWellFormed state
     → IsWellFormed (record { units = state.units; spans = with_span span state.spans })
-well_formed-with_span state span over free few formed = record {
+well_formed-with_span state slots span over free seat few formed = record {
   spans = all-with_span (IsSpanOver state.units) span state.spans over formed.spans;
   distinct = distinct-with_span span state.spans formed.distinct;
+  apart = seats-with_span span state.spans (seated-lacks_none state slots span.id span.what seat).1 formed.distinct formed.apart;
   few = rw (length-with_span state.units span state.spans) few;
   short = formed.short;
-  selection = attached-with_span 0 span state.spans (ne_eqb span.id 0 (omega arith)) ∙ formed.selection ∙ sym (attached-with_span 1 span state.spans (ne_eqb span.id 1 (omega arith)));
+  selection = attached-with_span 0 span state.spans (ne_eqb span.id 0 (omega arith))
+      ∙ formed.selection ∙ sym (attached-with_span 1 span state.spans (ne_eqb span.id 1 (omega arith)));
 }
 
-pub seated-with_span : (slots : ℕ) (state : State) (span : Span) → lacks_slot state slots span.id span.what ≡ false → HasDistinctIds state.spans → IsSeated slots state.spans
-    → IsSeated slots (with_span span state.spans)
-seated-with_span slots state span seat distinct seated =
-    let alone = seated-lacks_none state slots span.id span.what seat in
-    record {
-      in_range = all-with_span (λ one. HasSlot slots one.what) span state.spans alone.0 seated.in_range;
-      apart = seats-with_span span state.spans alone.1 distinct seated.apart;
-    }
+pub seated-with_span : (slots : ℕ) (state : State) (span : Span) → lacks_slot state slots span.id span.what ≡ false
+    → IsSeated slots state.spans → IsSeated slots (with_span span state.spans)
+seated-with_span slots state span seat seated =
+    all-with_span (λ one. HasSlot slots one.what) span state.spans (seated-lacks_none state slots span.id span.what seat).0 seated
 
 -- a span of another id is kept
 away_kept : (id at : ℕ) (span : Span) → at ≢ id → has_id at span ≡ true → not (has_id id span) ≡ true
 away_kept id at span other is = not_from_false (has_id id span) (ne_eqb span.id id (λ same. other (sym (eqb-true _ _ is) ∙ same)))
 
 attached-without : (id at : ℕ) (spans : List Span) → at ≢ id → is_attached at (without_span id spans) ≡ is_attached at spans
-attached-without id at spans other = attached-filter at (λ span. not (has_id id span)) spans (all_each (λ span. has_id at span ≡ true → not (has_id id span) ≡ true) (λ span is. away_kept id at span other is) spans)
+attached-without id at spans other = attached-filter at (λ span. not (has_id id span)) spans
+    (all_each (λ span. has_id at span ≡ true → not (has_id id span) ≡ true) (λ span is. away_kept id at span other is) spans)
 
-pub well_formed-without_span : (state : State) (id : ℕ) → 2 < id → IsWellFormed state → IsWellFormed (record { units = state.units; spans = without_span id state.spans })
+pub well_formed-without_span : (state : State) (id : ℕ) → 2 < id → IsWellFormed state
+    → IsWellFormed (record { units = state.units; spans = without_span id state.spans })
 well_formed-without_span state id free formed =
     let keep = λ (span : Span). not (has_id id span) in
     record {
       spans = all-filter (IsSpanOver state.units) keep state.spans formed.spans;
       distinct = distinct-filter keep state.spans formed.distinct;
+      apart = seats-filter keep state.spans formed.apart;
       few = omega (arith, formed.few, length-filter_both (has_id id) keep (λ span. refl) state.spans);
       short = formed.short;
       selection = attached-without id 0 state.spans (omega arith) ∙ formed.selection ∙ sym (attached-without id 1 state.spans (omega arith));
@@ -175,8 +175,4 @@ well_formed-without_span state id free formed =
 
 pub seated-without_span : (slots id : ℕ) (spans : List Span) → IsSeated slots spans → IsSeated slots (without_span id spans)
 seated-without_span slots id spans seated =
-    let keep = λ (span : Span). not (has_id id span) in
-    record {
-      in_range = all-filter (λ span. HasSlot slots span.what) keep spans seated.in_range;
-      apart = seats-filter keep spans seated.apart;
-    }
+    all-filter (λ span. HasSlot slots span.what) (λ span. not (has_id id span)) spans seated

@@ -28,7 +28,8 @@ use Rattle.edit_model.proofs.AttachedSpans.{well_formed-with_span, seated-with_s
 -- ---- what the tests of a table say where they don't apply
 
 -- the places of a span that may not be empty differ
-filled_unless : (last : ℕ) (start end : ℤ) (point_mark : Bool) → ArePlaces last start end → (point_mark && int_eq start end) ≡ false → point_mark ≡ true → place start < place end
+filled_unless : (last : ℕ) (start end : ℤ) (point_mark : Bool) → ArePlaces last start end
+    → (point_mark && int_eq start end) ≡ false → point_mark ≡ true → place start < place end
 filled_unless last start end false places ignored is = absurd (cc)
 filled_unless last start end true places ignored is = elim (cases_lt (place start) (place end)) [
   | inl some ↦ some
@@ -55,7 +56,8 @@ pub record Passes (state : State) (start end : ℤ) (incoming : Incoming) : Type
   pub short : spliced_length (length state.units) (place start) (place end) (length incoming.units) ≤ TEXT
   pub few : length (replaced state (place start) (place end) incoming).spans ≤ SPANS
 
-pub passes : (state : State) (slots : ℕ) (start end : ℤ) (incoming : Incoming) → judged state slots (step.Replace start end incoming) ≡ Done → Passes state start end incoming
+pub passes : (state : State) (slots : ℕ) (start end : ℤ) (incoming : Incoming)
+    → judged state slots (step.Replace start end incoming) ≡ Done → Passes state start end incoming
 unfolding judged
 passes state slots start end incoming is_done =
     let n = none_applies (replace_lines state start end incoming) refl is_done in
@@ -65,13 +67,15 @@ passes state slots start end incoming is_done =
       few = ltb-false _ _ n.1.1.1.1.1.1.1.0;
     }
 
-pub well_formed-replace : (state : State) (start end : ℤ) (incoming : Incoming) → first_of (replace_lines state start end incoming) ≡ Done → All IsOrdered incoming.spans
+pub well_formed-replace : (state : State) (start end : ℤ) (incoming : Incoming)
+    → first_of (replace_lines state start end incoming) ≡ Done → All IsOrdered incoming.spans
     → IsWellFormed state → IsWellFormed (stepped state (step.Replace start end incoming))
 unfolding judged stepped
 well_formed-replace state start end incoming is_done in_order formed =
     let n = none_applies (replace_lines state start end incoming) refl is_done in
     let p = passes state 0 start end incoming is_done in
-    well_formed-replaced state (place start) (place end) incoming p.places.ordered p.places.within (all_may_come incoming in_order n.0 n.1.0) p.short p.few formed
+    well_formed-replaced state (place start) (place end) incoming p.places.ordered p.places.within
+    (all_may_come incoming in_order n.0 n.1.0) p.short p.few formed
 
 pub seated-replace : (slots : ℕ) (state : State) (start end : ℤ) (incoming : Incoming) → first_of (replace_lines state start end incoming) ≡ Done
     → IsSeated slots state.spans → IsSeated slots (stepped state (step.Replace start end incoming)).spans
@@ -80,7 +84,8 @@ seated-replace slots state start end incoming is_done seated =
     let n = none_applies (replace_lines state start end incoming) refl is_done in
     seated-replaced slots state (place start) (place end) incoming n.0 seated
 
-module _ (state : State) (slots id : ℕ) (start end : ℤ) (flags : ℕ) (what : What) (is_done : first_of (set_lines state slots id start end flags what) ≡ Done) where
+module _ (state : State) (slots id : ℕ) (start end : ℤ) (flags : ℕ) (what : What)
+    (is_done : first_of (set_lines state slots id start end flags what) ≡ Done) where
   set_passes : NoneApplies (set_lines state slots id start end flags what)
   set_passes = none_applies (set_lines state slots id start end flags what) refl is_done
 
@@ -105,11 +110,12 @@ module _ (state : State) (slots id : ℕ) (start end : ℤ) (flags : ℕ) (what 
   pub well_formed-set : IsWellFormed state → IsWellFormed (stepped state (step.Set id start end flags what))
   unfolding stepped
   well_formed-set formed =
-      well_formed-with_span state (set_span id start end flags what) set_over set_free (ltb-false _ _ set_passes.1.1.1.1.1.1.1.1.1.0) formed
+      well_formed-with_span state slots (set_span id start end flags what) set_over set_free set_passes.1.0
+      (ltb-false _ _ set_passes.1.1.1.1.1.1.1.1.1.0) formed
 
-  pub seated-set : IsWellFormed state → IsSeated slots state.spans → IsSeated slots (stepped state (step.Set id start end flags what)).spans
+  pub seated-set : IsSeated slots state.spans → IsSeated slots (stepped state (step.Set id start end flags what)).spans
   unfolding stepped
-  seated-set formed seated = seated-with_span slots state (set_span id start end flags what) set_passes.1.0 formed.distinct seated
+  seated-set seated = seated-with_span slots state (set_span id start end flags what) set_passes.1.0 seated
 
 pub well_formed-remove : (state : State) (id : ℕ) → first_of (remove_lines state id) ≡ Done → IsWellFormed state → IsWellFormed (stepped state (step.Remove id))
 unfolding stepped
@@ -119,17 +125,19 @@ well_formed-remove state id is_done formed =
 
 -- ---- every edit
 
-pub well_formed-stepped : (state : State) (slots : ℕ) (asked : Step) → judged state slots asked ≡ Done → BringsOrdered asked → IsWellFormed state → IsWellFormed (stepped state asked)
+pub well_formed-stepped : (state : State) (slots : ℕ) (asked : Step)
+    → judged state slots asked ≡ Done → BringsOrdered asked → IsWellFormed state → IsWellFormed (stepped state asked)
 unfolding judged
 well_formed-stepped state slots (step.Replace start end incoming) is_done in_order formed = well_formed-replace state start end incoming is_done in_order formed
 well_formed-stepped state slots (step.Set id start end flags what) is_done in_order formed = well_formed-set state slots id start end flags what is_done formed
 well_formed-stepped state slots (step.Remove id) is_done in_order formed = well_formed-remove state id is_done formed
 
-pub seated-stepped : (state : State) (slots : ℕ) (asked : Step) → judged state slots asked ≡ Done → IsWellFormed state → IsSeated slots state.spans → IsSeated slots (stepped state asked).spans
+pub seated-stepped : (state : State) (slots : ℕ) (asked : Step) → judged state slots asked ≡ Done
+    → IsSeated slots state.spans → IsSeated slots (stepped state asked).spans
 unfolding judged stepped
-seated-stepped state slots (step.Replace start end incoming) is_done formed seated = seated-replace slots state start end incoming is_done seated
-seated-stepped state slots (step.Set id start end flags what) is_done formed seated = seated-set state slots id start end flags what is_done formed seated
-seated-stepped state slots (step.Remove id) is_done formed seated = seated-without_span slots id state.spans seated
+seated-stepped state slots (step.Replace start end incoming) is_done seated = seated-replace slots state start end incoming is_done seated
+seated-stepped state slots (step.Set id start end flags what) is_done seated = seated-set state slots id start end flags what is_done seated
+seated-stepped state slots (step.Remove id) is_done seated = seated-without_span slots id state.spans seated
 
 -- what holds of the state of an edit that is done, and of the state before, holds of the state after
 by_verdict : (P : State → Type 0) (verdict : Verdict) (done kept : State) → (verdict ≡ Done → P done) → P kept → P (on_done verdict done kept)
@@ -141,8 +149,10 @@ by_verdict P (Refused refusal) done kept changed same = same
 
 pub well_formed-after : (state : State) (slots : ℕ) (asked : Step) → BringsOrdered asked → IsWellFormed state → IsWellFormed (state_after state slots asked)
 well_formed-after state slots asked in_order formed =
-    by_verdict IsWellFormed (judged state slots asked) (stepped state asked) state (λ is_done. well_formed-stepped state slots asked is_done in_order formed) formed
+    by_verdict IsWellFormed (judged state slots asked) (stepped state asked) state
+    (λ is_done. well_formed-stepped state slots asked is_done in_order formed) formed
 
-pub seated-after : (state : State) (slots : ℕ) (asked : Step) → IsWellFormed state → IsSeated slots state.spans → IsSeated slots (state_after state slots asked).spans
-seated-after state slots asked formed seated =
-    by_verdict (λ one. IsSeated slots one.spans) (judged state slots asked) (stepped state asked) state (λ is_done. seated-stepped state slots asked is_done formed seated) seated
+pub seated-after : (state : State) (slots : ℕ) (asked : Step) → IsSeated slots state.spans → IsSeated slots (state_after state slots asked).spans
+seated-after state slots asked seated =
+    by_verdict (λ one. IsSeated slots one.spans) (judged state slots asked) (stepped state asked) state
+    (λ is_done. seated-stepped state slots asked is_done seated) seated

@@ -1,5 +1,6 @@
 -- What filters keep, and where they take places.
-use Rattle.std.proofs.Common.{◌≡◌, ℕ, ◌+◌, ◌-◌, ◌<◌, ◌≤◌, ◌&&◌, Bool, true, false, not, cond, leb, ltb, List, [], ◌∷◌, map, length, take, drop, get_or, min, refl, sym, ap, ◌∙◌, arith, length-append, length-take}
+use Rattle.std.proofs.Common.{◌≡◌, ℕ, ◌+◌, ◌-◌, ◌<◌, ◌≤◌, ◌&&◌, Bool, true, false, not, cond, leb, ltb, List, [], ◌∷◌, map, length, take}
+use Rattle.std.proofs.Common.{drop, get_or, min, refl, sym, ap, ◌∙◌, arith, length-append, length-take}
 use Rattle.std.specs.Prelude.{slice_index}
 use Rattle.std.specs.List.{All, filter, fold}
 use Rattle.std.proofs.lemmas.Bool.{leb-true, leb-false, ltb-true, lt-leb, and_parts, and_left}
@@ -37,7 +38,8 @@ high_is_not_low unit high =
 -- the last unit that is kept is no high surrogate, or the next one is high, so that the two are no pair
 cut_at : (high : Bool) (fit : ℕ) (units : List ℕ) (at : ℕ) → is_high (get_or units (fit - 1) 0) ≡ high → at + 1 ≡ cond high (fit - 1) fit
     → (is_high (get_or units at 0) && is_low (get_or units (at + 1) 0)) ≡ false
-cut_at true fit units at is cut = rw (high_is_not_low (get_or units (at + 1) 0) (ap (λ i. is_high (get_or units i 0)) cut ∙ is)) (never (is_high (get_or units at 0)))
+cut_at true fit units at is cut = rw (high_is_not_low (get_or units (at + 1) 0) (ap (λ i. is_high (get_or units i 0)) cut ∙ is))
+    (never (is_high (get_or units at 0)))
   where
     never : (test : Bool) → (test && false) ≡ false
     never true = refl
@@ -57,7 +59,8 @@ pub cuts_no_pair : (greatest others : ℕ) (units : List ℕ) (at : ℕ) → at 
     → (is_high (slice_index units at) && is_low (slice_index units (at + 1))) ≡ false
 cuts_no_pair greatest others units at cut before =
     let kept = kept_first_of_all (greatest - others) units in
-    pair_whole (leb (length units) (greatest - others)) (greatest - others) units at refl (omega (arith, length-take (kept_first (greatest - others) units) units)) before
+    pair_whole (leb (length units) (greatest - others)) (greatest - others) units at refl
+    (omega (arith, length-take (kept_first (greatest - others) units) units)) before
 
 -- ---- a filter of units
 
@@ -129,7 +132,8 @@ module _ (to : ℕ → ℕ) (in_order : (x y : ℕ) → x ≤ y → to x ≤ to 
 inside_at : (to : ℕ → ℕ) (end : ℕ) → ((x : ℕ) → to x ≤ end) → (spans : List NewSpan) → All (λ span. span.end ≤ end) (map (at_places to) spans)
 inside_at to end within spans = All-map (λ span. span.end ≤ end) (at_places to) spans (λ i blank below. within _)
 
-pub comes-clipped : (incoming : Incoming) → All IsOrdered incoming.spans → ComesOf (length incoming.units) (length incoming.spans) incoming.composing (clipped incoming)
+pub comes-clipped : (incoming : Incoming) → All IsOrdered incoming.spans
+    → ComesOf (length incoming.units) (length incoming.spans) incoming.composing (clipped incoming)
 comes-clipped incoming ordered =
     let to = λ (at : ℕ). min at (length incoming.units) in
     record {
@@ -152,7 +156,8 @@ module _ {most count : ℕ} {region : Bool} (others : ℕ) where
         composing = comes.composing;
       }
 
-  pub comes-fold : (filters : List Filter) (incoming : Incoming) → ComesOf most count region incoming → ComesOf most count region (fold (through others) incoming filters)
+  pub comes-fold : (filters : List Filter) (incoming : Incoming) → ComesOf most count region incoming
+      → ComesOf most count region (fold (through others) incoming filters)
   comes-fold [] incoming comes = comes
   comes-fold (it ∷ filters) incoming comes = comes-fold filters (through others incoming it) (comes-through incoming it comes)
 
@@ -165,7 +170,6 @@ brought-filtered filters incoming length_before s e brought =
         units = omega (arith, comes.units, brought.units);
         spans = omega (arith, comes.spans, brought.spans);
         ordered = comes.ordered;
-        plain = comes.composing ∙ brought.plain;
       },
       comes.units,
       comes.spans,

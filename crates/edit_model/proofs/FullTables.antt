@@ -13,7 +13,7 @@ use Rattle.edit_model.specs.State.{State, place, ArePlaces}
 use Rattle.edit_model.specs.Attached.{is_attached}
 use Rattle.edit_model.specs.Replaced.{spliced_length}
 use Rattle.edit_model.specs.declared.steps.Step.TheVariants as step
-use Rattle.edit_model.specs.Verdicts.{judged, is_kept_id, lacks_slot, goes_beyond, goes_below, breaks_paragraph, is_ignored, brings_reserved, brings_bad_flags, changes_nothing, length_after, spans_after}
+use Rattle.edit_model.specs.Verdicts.{judged, is_kept_id, lacks_slot, goes_beyond, goes_below, breaks_paragraph, is_ignored, brings_reserved, brings_bad_flags, changes_nothing, length_after, span_count_after_set}
 use Rattle.edit_model.specs.Flags.{is_bad}
 use Rattle.edit_model.specs.WellFormed.{is_kept_what}
 use Rattle.edit_model.proofs.Tables.{places_pass}
@@ -28,13 +28,14 @@ last : (test : Bool) (rest : Verdict) → rest ≢ Refused SpansFull → cond te
 last true rest other is = refl
 last false rest other is = absurd (other is)
 
-spans_counted : (attached : Bool) (count : ℕ) → count ≤ SPANS → nat_lt SPANS (cond attached count (count + 1)) ≡ true → cond attached count (count + 1) ≡ count + 1
+spans_counted : (attached : Bool) (count : ℕ) → count ≤ SPANS
+    → nat_lt SPANS (cond attached count (count + 1)) ≡ true → cond attached count (count + 1) ≡ count + 1
 spans_counted true count few over = absurd (grind (arith, nat_tests))
 spans_counted false count few over = refl
 
 -- a set that is refused since too many spans would stand would have added one
 pub full-adds_one : (state : State) (slots id : ℕ) (start end : ℤ) (flags : ℕ) (what : What) → length state.spans ≤ SPANS
-    → judged state slots (step.Set id start end flags what) ≡ Refused SpansFull → spans_after state id ≡ length state.spans + 1
+    → judged state slots (step.Set id start end flags what) ≡ Refused SpansFull → span_count_after_set state id ≡ length state.spans + 1
 unfolding judged
 full-adds_one state slots id start end flags what few is =
     let a = past (is_kept_id id || is_kept_what what) (Refused Reserved) _ (λ h. cc) is in
@@ -46,14 +47,15 @@ full-adds_one state slots id start end flags what few is =
     let g = past (breaks_paragraph state flags start) (Refused ParagraphStart) _ (λ h. cc) f.1 in
     let h = past (breaks_paragraph state flags end) (Refused ParagraphEnd) _ (λ h. cc) g.1 in
     let i = past (is_ignored flags start end) Ignored _ (λ h. cc) h.1 in
-    spans_counted (is_attached id state.spans) (length state.spans) few (last (nat_lt SPANS (spans_after state id)) _ (λ h. cc) i.1)
+    spans_counted (is_attached id state.spans) (length state.spans) few (last (nat_lt SPANS (span_count_after_set state id)) _ (λ h. cc) i.1)
 
 -- a replacement that is refused since too many spans would stand has places in the text, in order, and no text that is too long
 pub record IsShort (state : State) (start end : ℤ) (incoming : Incoming) : Type 0 where
   pub places : ArePlaces (length state.units) start end
   pub short : spliced_length (length state.units) (place start) (place end) (length incoming.units) ≤ TEXT
 
-pub full-is_short : (state : State) (slots : ℕ) (start end : ℤ) (incoming : Incoming) → judged state slots (step.Replace start end incoming) ≡ Refused SpansFull → IsShort state start end incoming
+pub full-is_short : (state : State) (slots : ℕ) (start end : ℤ) (incoming : Incoming)
+    → judged state slots (step.Replace start end incoming) ≡ Refused SpansFull → IsShort state start end incoming
 unfolding judged
 full-is_short state slots start end incoming is =
     let a = past (brings_reserved incoming) (Refused Reserved) _ (λ h. cc) is in

@@ -1,4 +1,5 @@
 pub mod OverLists
+pub mod Tests
 pub mod Tables
 pub mod FullTables
 pub mod Splices
@@ -14,4 +15,6 @@ pub mod Newcomers
 pub mod Replacements
 pub mod AttachedSpans
 pub mod EditedStates
+pub mod Watchers
 pub mod FilterLaws
+pub mod Unfiltered

@@ -1,7 +1,7 @@
 -- Lists of spans that are filtered and changed one by one.
 use Rattle.std.proofs.Common.{◌≡◌, ℕ, ◌||◌, Bool, true, false, cond, eqb, List, [], ◌∷◌, ◌++◌, map, refl, sym, ap, ◌∙◌, inl, inr, arith}
 use Rattle.std.specs.List.{AllByRecursion, filter, list_any}
-use Rattle.std.proofs.lemmas.Bool.{or_parts, or_from, cases_Bool}
+use Rattle.std.proofs.lemmas.Bool.{cond_both, or_parts, or_from, cases_Bool}
 use Rattle.std.proofs.lemmas.Bool.Decides.{nat_tests}
 use Rattle.edit_base.specs.declared.kinds.What.{What}
 use Rattle.edit_base.specs.declared.kinds.What.TheVariants.{Tag, Face, Margin, Float, Watch, SelStart, SelEnd, Composing}
@@ -12,23 +12,19 @@ use Rattle.edit_model.specs.WellFormed.{HasDistinctIds, HasOtherSeat, HasDistinc
 -- ---- what holds of each
 
 module _ {X : Type 0} (P : X → Type 0) where
-  filtered_step : (test : Bool) (x : X) (xs : List X) → P x → AllByRecursion P xs → AllByRecursion P (cond test (x ∷ xs) xs)
-  filtered_step true x xs here rest = (here, rest)
-  filtered_step false x xs here rest = rest
-
   pub all-filter : (keep : X → Bool) (xs : List X) → AllByRecursion P xs → AllByRecursion P (filter keep xs)
   all-filter keep [] each = tt
-  all-filter keep (x ∷ xs) each = filtered_step (keep x) x (filter keep xs) each.0 (all-filter keep xs each.1)
-
-  passed_step : (keep : X → Bool) (test : Bool) (x : X) (xs : List X) → keep x ≡ test → P x → AllByRecursion (λ y. P y × (keep y ≡ true)) xs
-      → AllByRecursion (λ y. P y × (keep y ≡ true)) (cond test (x ∷ xs) xs)
-  passed_step keep true x xs is here rest = ((here, is), rest)
-  passed_step keep false x xs is here rest = rest
+  all-filter keep (x ∷ xs) each =
+      let rest = all-filter keep xs each.1 in
+      cond_both (keep x) (x ∷ filter keep xs) (filter keep xs) (AllByRecursion P) (λ is. (each.0, rest)) (λ is. rest)
 
   -- each that a filter keeps passes it
   pub all-filter_passes : (keep : X → Bool) (xs : List X) → AllByRecursion P xs → AllByRecursion (λ y. P y × (keep y ≡ true)) (filter keep xs)
   all-filter_passes keep [] each = tt
-  all-filter_passes keep (x ∷ xs) each = passed_step keep (keep x) x (filter keep xs) refl each.0 (all-filter_passes keep xs each.1)
+  all-filter_passes keep (x ∷ xs) each =
+      let rest = all-filter_passes keep xs each.1 in
+      cond_both (keep x) (x ∷ filter keep xs) (filter keep xs) (AllByRecursion (λ y. P y × (keep y ≡ true)))
+      (λ is. ((each.0, is), rest)) (λ is. rest)
 
   pub all_each : ((x : X) → P x) → (xs : List X) → AllByRecursion P xs
   all_each every [] = tt
@@ -47,7 +43,8 @@ module _ {X : Type 0} (P Q : X → Type 0) where
   all-weaker step [] each = tt
   all-weaker step (x ∷ xs) each = (step x each.0, all-weaker step xs each.1)
 
-pub all-map : {X Y : Type 0} (P : X → Type 0) (Q : Y → Type 0) (f : X → Y) → ((x : X) → P x → Q (f x)) → (xs : List X) → AllByRecursion P xs → AllByRecursion Q (map f xs)
+pub all-map : {X Y : Type 0} (P : X → Type 0) (Q : Y → Type 0) (f : X → Y)
+    → ((x : X) → P x → Q (f x)) → (xs : List X) → AllByRecursion P xs → AllByRecursion Q (map f xs)
 all-map P Q f step [] each = tt
 all-map P Q f step (x ∷ xs) each = (step x each.0, all-map P Q f step xs each.1)
 
@@ -62,27 +59,24 @@ all_fail test (x ∷ xs) none = let parts = or_parts (test x) (list_any test xs)
 
 -- ---- ids
 
-attached_step : (id : ℕ) (test : Bool) (span : Span) (spans : List Span) → has_id id span ≡ false → is_attached id spans ≡ false → is_attached id (cond test (span ∷ spans) spans) ≡ false
-attached_step id true span spans other none = or_from _ _ other none
-attached_step id false span spans other none = none
-
 -- a filter attaches nothing
 pub absent-filter : (id : ℕ) (keep : Span → Bool) (spans : List Span) → is_attached id spans ≡ false → is_attached id (filter keep spans) ≡ false
 absent-filter id keep [] none = refl
 absent-filter id keep (span ∷ spans) none =
     let parts = or_parts (has_id id span) (is_attached id spans) none in
-    attached_step id (keep span) span (filter keep spans) parts.0 (absent-filter id keep spans parts.1)
-
-distinct_step : (test : Bool) (span : Span) (spans : List Span) → is_attached span.id spans ≡ false → HasDistinctIds spans → HasDistinctIds (cond test (span ∷ spans) spans)
-distinct_step true span spans other rest = (other, rest)
-distinct_step false span spans other rest = rest
+    let rest = absent-filter id keep spans parts.1 in
+    cond_both (keep span) (span ∷ filter keep spans) (filter keep spans) (λ list. is_attached id list ≡ false)
+    (λ is. or_from _ _ parts.0 rest) (λ is. rest)
 
 pub distinct-filter : (keep : Span → Bool) (spans : List Span) → HasDistinctIds spans → HasDistinctIds (filter keep spans)
 distinct-filter keep [] distinct = tt
 distinct-filter keep (span ∷ spans) distinct =
-    distinct_step (keep span) span (filter keep spans) (absent-filter span.id keep spans distinct.0) (distinct-filter keep spans distinct.1)
+    let rest = distinct-filter keep spans distinct.1 in
+    cond_both (keep span) (span ∷ filter keep spans) (filter keep spans) HasDistinctIds
+    (λ is. (absent-filter span.id keep spans distinct.0, rest)) (λ is. rest)
 
-kept_step : (id : ℕ) (test : Bool) (span : Span) (spans : List Span) → (has_id id span ≡ true → test ≡ true) → is_attached id (cond test (span ∷ spans) spans) ≡ (has_id id span || is_attached id spans)
+kept_step : (id : ℕ) (test : Bool) (span : Span) (spans : List Span)
+    → (has_id id span ≡ true → test ≡ true) → is_attached id (cond test (span ∷ spans) spans) ≡ (has_id id span || is_attached id spans)
 kept_step id true span spans kept = refl
 kept_step id false span spans kept = elim (cases_Bool (has_id id span)) [ inl is ↦ absurd (cc (kept is)) | inr other ↦ rw other ]
 
@@ -120,15 +114,12 @@ distinct-push span (first ∷ spans) none distinct =
 
 -- ---- seats
 
-seats_step : (test : Bool) (span : Span) (spans : List Span) → AllByRecursion (λ other. HasOtherSeat span.what other.what) spans → HasDistinctSeats spans
-    → HasDistinctSeats (cond test (span ∷ spans) spans)
-seats_step true span spans apart rest = (apart, rest)
-seats_step false span spans apart rest = rest
-
 pub seats-filter : (keep : Span → Bool) (spans : List Span) → HasDistinctSeats spans → HasDistinctSeats (filter keep spans)
 seats-filter keep [] apart = tt
 seats-filter keep (span ∷ spans) apart =
-    seats_step (keep span) span (filter keep spans) (all-filter (λ other. HasOtherSeat span.what other.what) keep spans apart.0) (seats-filter keep spans apart.1)
+    let rest = seats-filter keep spans apart.1 in
+    cond_both (keep span) (span ∷ filter keep spans) (filter keep spans) HasDistinctSeats
+    (λ is. (all-filter (λ other. HasOtherSeat span.what other.what) keep spans apart.0, rest)) (λ is. rest)
 
 pub seats-map : (f : Span → Span) → ((span : Span) → (f span).what ≡ span.what) → (spans : List Span) → HasDistinctSeats spans → HasDistinctSeats (map f spans)
 seats-map f same [] apart = tt
@@ -150,7 +141,8 @@ other_seat-sym what SelEnd apart = tt
 other_seat-sym what Composing apart = tt
 other_seat-sym what (Watch slot) apart = tt
 
-pub seats-push : (span : Span) (spans : List Span) → AllByRecursion (λ other. HasOtherSeat other.what span.what) spans → HasDistinctSeats spans → HasDistinctSeats (spans ++ span ∷ [])
+pub seats-push : (span : Span) (spans : List Span)
+    → AllByRecursion (λ other. HasOtherSeat other.what span.what) spans → HasDistinctSeats spans → HasDistinctSeats (spans ++ span ∷ [])
 seats-push span [] each apart = (tt, tt)
 seats-push span (first ∷ spans) each apart =
     (all-push (λ other. HasOtherSeat first.what other.what) span spans each.0 apart.0, seats-push span spans each.1 apart.1)

@@ -2,7 +2,7 @@
 use Rattle.std.proofs.Common.{◌≡◌, ℕ, ℤ, pos, negsuc, Bool, true, false, cond, ltb, List, [], ◌∷◌, ◌&&◌, ◌||◌, refl, sym, subst, arith}
 use Rattle.std.proofs.lemmas.Int.{ints}
 use Rattle.std.specs.Prelude.{◌≤ℤ◌, int_lt}
-use Rattle.std.proofs.lemmas.Bool.{or_parts, ltb-false}
+use Rattle.std.proofs.lemmas.Bool.{and_parts, or_parts, ltb-false}
 use Rattle.edit_base.specs.declared.verdicts.Verdict.{Verdict}
 use Rattle.edit_base.specs.declared.verdicts.Verdict.TheVariants.{Done, NoChange, Ignored, Absent, Refused}
 use Rattle.edit_model.specs.State.{place, ArePlaces}
@@ -33,15 +33,11 @@ past true Absent rest undone is_done = absurd (cc)
 past true (Refused refusal) rest undone is_done = absurd (cc)
 past false verdict rest undone is_done = (refl, is_done)
 
-both : (a b : Bool) → (a && b) ≡ true → (a ≡ true) × (b ≡ true)
-both true b h = (refl, h)
-both false b h = absurd (cc)
-
 -- where the answer is done no line applies
 pub none_applies : (lines : List (Bool × Verdict)) → all_leave_undone lines ≡ true → first_of lines ≡ Done → NoneApplies lines
 none_applies [] undone is_done = tt
 none_applies (line ∷ lines) undone is_done =
-    let u = both (leaves_undone line.1) (all_leave_undone lines) undone in
+    let u = and_parts (leaves_undone line.1) (all_leave_undone lines) undone in
     let p = past line.0 line.1 (first_of lines) u.0 is_done in
     (p.0, none_applies lines u.1 p.1)
 
@@ -66,7 +62,8 @@ pub least_end : (last : ℕ) (start end : ℤ) → ArePlaces last start end → 
 least_end last start end places = subst (λ z. pos 0 ≤ℤ z) (sym places.ends) (omega (arith, ints))
 
 pub ordered_places : (last : ℕ) (start end : ℤ) → ArePlaces last start end → start ≤ℤ end
-ordered_places last start end places = subst (λ z. z ≤ℤ end) (sym places.starts) (subst (λ z. pos (place start) ≤ℤ z) (sym places.ends) (omega (arith, ints, places.ordered)))
+ordered_places last start end places =
+    subst (λ z. z ≤ℤ end) (sym places.starts) (subst (λ z. pos (place start) ≤ℤ z) (sym places.ends) (omega (arith, ints, places.ordered)))
 
 pub greatest_place : (last : ℕ) (start end : ℤ) → ArePlaces last start end → end ≤ℤ pos last
 greatest_place last start end places = subst (λ z. z ≤ℤ pos last) (sym places.ends) (omega (arith, ints, places.within))

@@ -1,13 +1,11 @@
 -- Boundaries of paragraphs.
 use Rattle.std.specs.Prelude.{ℕ, ◌+◌, ◌-◌, ◌&&◌, ◌||◌, ◌==◌, Bool, List, length, drop, slice_index, nat_le, position}
 use Rattle.std.specs.Option.{option_map_or}
+use Rattle.edit_base.specs.declared.units.TheConstants.{NEWLINE}
 
 -- the unit that ends a paragraph
-abbrev pub newline : ℕ
-newline = 10
-
 abbrev pub is_newline : ℕ → Bool
-is_newline unit = unit == newline
+is_newline unit = unit == NEWLINE
 
 -- 0, the length, or a place right behind a `\n`
 abbrev pub is_boundary : List ℕ → ℕ → Bool

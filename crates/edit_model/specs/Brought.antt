@@ -1,31 +1,38 @@
--- What a replacement brings: what holds of it, and which of its spans are attached.
-use Rattle.std.specs.Prelude.{ℕ, ◌≡◌, ◌≤◌, ◌+◌, ◌++◌, ◌&&◌, ◌||◌, ◌==◌, Bool, false, not, List, [], ◌∷◌, length, map, min, if◌then◌else◌}
+-- What a replacement brings: what holds of it, and which of the spans that come are attached.
+use Rattle.std.specs.Prelude.{ℕ, ◌≤◌, ◌+◌, ◌++◌, ◌&&◌, ◌||◌, ◌==◌, Bool, not, List, [], ◌∷◌, length, map, min, if◌then◌else◌}
 use Rattle.std.specs.List.{All}
+use Rattle.edit_base.specs.declared.kinds.What.TheVariants.{Composing}
 use Rattle.edit_base.specs.declared.rows.Incoming.{Incoming}
+use Rattle.edit_base.specs.declared.rows.TheConstants.Incoming.{MOST}
 use Rattle.edit_base.specs.declared.rows.NewSpan.{NewSpan}
 use Rattle.edit_model.specs.State.{Span}
 use Rattle.edit_model.specs.Flags.{kind_of, is_point_mark, is_paragraph}
 use Rattle.edit_model.specs.Boundaries.{is_boundary}
 use Rattle.edit_model.specs.Attached.{is_attached}
+use Rattle.edit_model.specs.WellFormed.{composing_id, composing_flags}
 
 -- ---- conditions
-
--- as many units, and as many spans, as a replacement may bring
-abbrev pub most_incoming : ℕ
-most_incoming = 1073741824
 
 -- the start isn't behind the end
 abbrev pub IsOrdered : NewSpan → Type 0
 IsOrdered span = span.start ≤ span.end
 
--- what holds of everything that a replacement brings; as yet it never brings the composing region
+-- what holds of everything that a replacement brings: no more units, nor spans, than it may
 pub record IsBrought (incoming : Incoming) : Type 0 where
-  pub units : length incoming.units ≤ most_incoming
-  pub spans : length incoming.spans ≤ most_incoming
+  pub units : length incoming.units ≤ MOST
+  pub spans : length incoming.spans ≤ MOST
   pub ordered : All IsOrdered incoming.spans
-  pub plain : incoming.composing ≡ false
 
 -- ---- spans
+
+-- the composing region over n incoming units, where it comes
+abbrev pub region_over : Bool → ℕ → List NewSpan
+region_over composing n =
+    if composing then record { id = composing_id; start = 0; end = n; flags = composing_flags; what = Composing } ∷ [] else []
+
+-- the spans that come: those given, in their order, and the composing region last
+abbrev pub coming_spans : Incoming → List NewSpan
+coming_spans incoming = incoming.spans ++ region_over incoming.composing (length incoming.units)
 
 -- a span over n incoming units as it stands in the text: clipped to them, and moved by the place where they begin
 abbrev pub placed_span : ℕ → ℕ → NewSpan → Span
@@ -54,6 +61,6 @@ newcomers units attached (span ∷ spans) =
     if is_skipped units attached span then newcomers units attached spans
     else span ∷ newcomers units (attached ++ span ∷ []) spans
 
--- the incoming spans that are attached at a place of these units, which hold the incoming ones already
+-- the spans that come and are attached at a place of these units, which hold the incoming ones already
 abbrev pub brought_spans : List ℕ → List Span → ℕ → Incoming → List Span
-brought_spans units attached s incoming = newcomers units attached (map (placed_span s (length incoming.units)) incoming.spans)
+brought_spans units attached s incoming = newcomers units attached (map (placed_span s (length incoming.units)) (coming_spans incoming))

@@ -1,11 +1,7 @@
 -- The state after an edit, and what the edit changed.
 use Rattle.std.specs.Prelude.{ℕ, ◌&&◌, ◌==◌, Bool, not, List, [], ◌∷◌, map, filter, length, if◌then◌else◌}
-use Rattle.edit_base.specs.declared.rows.Incoming.{Incoming}
-use Rattle.edit_base.specs.declared.rows.SpanRow.{SpanRow}
 use Rattle.edit_base.specs.declared.verdicts.Verdict.{Verdict}
 use Rattle.edit_base.specs.declared.verdicts.Verdict.TheVariants.{Done, NoChange, Ignored, Absent, Refused}
-use Rattle.edit_model.specs.declared.changes.Change.{Change}
-use Rattle.edit_model.specs.declared.changes.MovedRow.{MovedRow}
 use Rattle.edit_model.specs.declared.steps.Step.{Step}
 use Rattle.edit_model.specs.declared.steps.Step.TheVariants as step
 use Rattle.edit_model.specs.State.{Span, State, place}
@@ -33,24 +29,6 @@ pub record Effect : Type 0 where
 abbrev pub no_effect : Effect
 no_effect = record { start = 0; old_end = 0; grown = 0; removed = []; moved = []; added = [] }
 
--- a row without its order
-abbrev pub span_of : SpanRow → Span
-span_of row = record { id = row.id; start = row.start; end = row.end; flags = row.flags; what = row.what }
-
-abbrev pub shift_of : MovedRow → Shift
-shift_of row = record { from = span_of row.from; to = span_of row.to }
-
--- a change without the orders of its rows
-abbrev pub effect_of : Change → Effect
-effect_of change = record {
-  start = change.start;
-  old_end = change.old_end;
-  grown = change.grown;
-  removed = map span_of change.removed.items;
-  moved = map shift_of change.moved.items;
-  added = map span_of change.added.items;
-}
-
 -- an edit of spans alone, at the place 0
 abbrev pub spans_effect : List Span → List Shift → List Span → Effect
 spans_effect removed moved added = record { start = 0; old_end = 0; grown = 0; removed = removed; moved = moved; added = added }
@@ -62,14 +40,15 @@ has_moved shift = not (shift.from.start == shift.to.start && shift.from.end == s
 abbrev pub shifts_by : (Span → Span) → List Span → List Shift
 shifts_by move spans = map (λ span. record { from = span; to = move span }) spans
 
-abbrev pub replaced_effect : State → ℕ → ℕ → Incoming → Effect
-replaced_effect state s e incoming = let n = length incoming.units in record {
+-- the units [s, e) became n units, and these spans came
+abbrev pub replaced_effect : State → ℕ → ℕ → ℕ → List Span → Effect
+replaced_effect state s e n added = record {
   start = s;
   old_end = e;
   grown = n;
   removed = emptied_spans s e n state.spans;
   moved = filter has_moved (shifts_by (moved_span s e n state.units) (kept_spans s e n state.spans));
-  added = came_spans state s e incoming;
+  added = added;
 }
 
 -- an attached span is one moved row, even where nothing differs, and another an added one
@@ -81,7 +60,8 @@ set_effect state span =
 
 -- what an edit changes where its verdict is done
 unfoldable pub change_of : State → Step → Effect
-change_of state (step.Replace start end incoming) = replaced_effect state (place start) (place end) incoming
+change_of state (step.Replace start end incoming) =
+    replaced_effect state (place start) (place end) (length incoming.units) (came_spans state (place start) (place end) incoming)
 change_of state (step.Set id start end flags what) =
     set_effect state (record { id = id; start = place start; end = place end; flags = flags; what = what })
 change_of state (step.Remove id) = spans_effect (spans_of id state.spans) [] []

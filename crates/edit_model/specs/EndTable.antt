@@ -1,5 +1,5 @@
 -- Where the end x of a span goes when the units [s, e) of a text become n units.
-use Rattle.std.specs.Prelude.{ℕ, ◌+◌, ◌-◌, ◌==◌, List, length, nat_lt, if◌then◌else◌}
+use Rattle.std.specs.Prelude.{ℕ, ◌+◌, ◌-◌, ◌&&◌, ◌==◌, Bool, List, length, nat_lt, nat_le, if◌then◌else◌}
 use Rattle.edit_model.specs.declared.kinds.EndKind.{EndKind}
 use Rattle.edit_model.specs.declared.kinds.EndKind.TheVariants.{Mark, Point, Paragraph}
 use Rattle.edit_model.specs.Boundaries.{next_boundary}
@@ -44,3 +44,11 @@ end_of kind x s e n units =
     else (if x == s then at_start kind s
     else (if nat_lt x e then inside kind s e n units
     else at_end kind s e n units))))
+
+-- a paragraph end that lies inside the range or at its end is pulled
+abbrev pub is_pulled : ℕ → ℕ → ℕ → Bool
+is_pulled x s e = nat_lt s x && nat_le x e
+
+-- where an end of the span with this id goes: by its kind alone
+abbrev pub end_of_span : ℕ → EndKind → ℕ → ℕ → ℕ → ℕ → List ℕ → ℕ
+end_of_span id kind x s e n units = end_of kind x s e n units

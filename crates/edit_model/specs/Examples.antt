@@ -1,6 +1,6 @@
 -- Worked examples of reading, filtering, attaching and printing.
-use Rattle.std.specs.Prelude.{ℕ, ◌≡◌, ◌∷◌, [], pos, negsuc, codes, Ok, Err}
-use Rattle.edit_base.specs.declared.kinds.What.TheVariants.{Tag}
+use Rattle.std.specs.Prelude.{ℕ, ◌≡◌, ◌∷◌, [], true, pos, negsuc, codes, Ok, Err}
+use Rattle.edit_base.specs.declared.kinds.What.TheVariants.{Tag, Composing}
 use Rattle.edit_base.specs.declared.rows.NewSpan.{NewSpan}
 use Rattle.edit_base.specs.declared.verdicts.Verdict.TheVariants.{Refused}
 use Rattle.edit_base.specs.declared.verdicts.Refusal.TheVariants.{Below}
@@ -57,6 +57,13 @@ AttachesSpans =
     came_spans (record { units = codes "x\ny"; spans = [] }) 2 2
     (incoming_of (codes "a\n") (tagged 9 0 5 17 ∷ tagged 9 0 1 17 ∷ tagged 8 1 1 33 ∷ tagged 7 0 2 51 ∷ tagged 6 0 1 51 ∷ []))
     ≡ attached 9 2 4 17 ∷ attached 7 2 4 51 ∷ []
+
+-- behind the spans given comes the composing region, over all units that come, unless there are none
+abbrev pub AttachesRegion : Type 0
+AttachesRegion =
+    (came_spans (record { units = codes "xy"; spans = [] }) 1 2 (record { units = codes "abc"; spans = tagged 9 0 1 17 ∷ []; composing = true })
+    ≡ attached 9 1 2 17 ∷ record { id = 2; start = 1; end = 4; flags = 289; what = Composing } ∷ [])
+    × (came_spans (record { units = codes "xy"; spans = [] }) 1 2 (record { units = []; spans = []; composing = true }) ≡ [])
 
 -- a refused edit; then a letter, the quote, the backslash, a line's end, half of a surrogate pair, the last plain unit
 -- and the one behind it

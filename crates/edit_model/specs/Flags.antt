@@ -59,10 +59,6 @@ is_paragraph PointMark = false
 is_paragraph PointPoint = false
 is_paragraph Paragraph = true
 
--- the mark of a composing text
-abbrev pub has_composing : ℕ → Bool
-has_composing word = word / 256 % 2 == 1
-
 -- bits 16 to 23
 abbrev pub priority_of : ℕ → ℕ
 priority_of word = word / 65536 % 256

@@ -1,7 +1,8 @@
 -- What the definitions mean, as laws.
-use Rattle.std.specs.Prelude.{ℕ, ◌≡◌, ◌≢◌, ◌<◌, ◌≤◌, ◌+◌, ◌&&◌, ◌⊎◌, ◌++◌, true, false, List, [], ◌∷◌, length, take, filter, slice_index, if◌then◌else◌, IfOk}
-use Rattle.std.specs.List.{flat_map, All, AllByRecursion}
+use Rattle.std.specs.Prelude.{ℕ, ◌≡◌, ◌≢◌, ◌<◌, ◌≤◌, ◌+◌, ◌&&◌, ◌⊎◌, ◌++◌, true, false, List, [], length, take, filter, slice_index, if◌then◌else◌, IfOk}
+use Rattle.std.specs.List.{All, AllByRecursion}
 use Rattle.edit_base.specs.declared.rows.Incoming.{Incoming}
+use Rattle.edit_base.specs.declared.verdicts.Verdict.{Verdict}
 use Rattle.edit_base.specs.declared.verdicts.Verdict.TheVariants.{Done}
 use Rattle.edit_model.specs.declared.kinds.Kind.{Kind}
 use Rattle.edit_model.specs.declared.kinds.EndKind.{EndKind}
@@ -17,11 +18,13 @@ use Rattle.edit_model.specs.EndTable.{end_of}
 use Rattle.edit_model.specs.Replaced.{spliced, spliced_length}
 use Rattle.edit_model.specs.WellFormed.{IsWellFormed, IsSeated}
 use Rattle.edit_model.specs.Verdicts.{judged}
-use Rattle.edit_model.specs.Changed.{state_after}
+use Rattle.edit_model.specs.Over.{is_watch}
+use Rattle.edit_model.specs.Changed.{stepped, change_of, state_after}
+use Rattle.edit_model.specs.Log.{logged}
 use Rattle.edit_model.specs.Attached.{has_id, is_attached, spans_of}
 use Rattle.edit_model.specs.Brought.{IsOrdered, IsBrought, has_place, newcomers}
-use Rattle.edit_model.specs.Filtered.{is_high, is_low, passed, kept_before, filtered}
-use Rattle.edit_model.specs.Lines.{trace_lines}
+use Rattle.edit_model.specs.Filtered.{is_high, is_low, passed, kept_before, filtered, filtered_step}
+use Rattle.edit_model.specs.Lines.{with_newline, joined, trace_lines, ended_lines, open_line}
 use Rattle.edit_model.specs.Reading.{read_command, IsFitting}
 
 -- ---- edits
@@ -40,9 +43,14 @@ BringsOrdered (step.Remove id) = Unit {0}
 abbrev pub KeepsWellFormed : Type 0
 KeepsWellFormed = (state : State) (slots : ℕ) (asked : Step) → BringsOrdered asked → IsWellFormed state → IsWellFormed (state_after state slots asked)
 
--- and each watcher keeps a seat of its own
+-- and each watcher keeps a slot
 abbrev pub KeepsSeats : Type 0
-KeepsSeats = (state : State) (slots : ℕ) (asked : Step) → IsWellFormed state → IsSeated slots state.spans → IsSeated slots (state_after state slots asked).spans
+KeepsSeats = (state : State) (slots : ℕ) (asked : Step) → IsSeated slots state.spans → IsSeated slots (state_after state slots asked).spans
+
+-- there are no more watchers than slots
+abbrev pub HasFewWatchers : Type 0
+HasFewWatchers = (state : State) (slots : ℕ) → IsWellFormed state → IsSeated slots state.spans
+    → length (filter (λ span. is_watch span.what) state.spans) ≤ slots
 
 -- ---- incoming spans
 
@@ -80,6 +88,14 @@ FiltersBrought = (filters : List Filter) (incoming : Incoming) (length_before s 
     × (length (filtered filters incoming length_before s e).spans ≡ length incoming.spans)
     × All (λ span. span.end ≤ length (filtered filters incoming length_before s e).units) (filtered filters incoming length_before s e).spans
 
+-- what an edit does where no filter is set it does with its text as given: places behind the text that comes change nothing
+abbrev pub ClippingChangesNothing : Type 0
+ClippingChangesNothing = (state : State) (slots : ℕ) (asked : Step)
+    → (judged state slots (filtered_step [] state asked) ≡ judged state slots asked)
+    × (stepped state (filtered_step [] state asked) ≡ stepped state asked)
+    × (change_of state (filtered_step [] state asked) ≡ change_of state asked)
+    × ((verdict : Verdict) → logged state (filtered_step [] state asked) verdict ≡ logged state asked verdict)
+
 -- ---- ends
 
 -- an end of a span over a text stays in the text
@@ -113,12 +129,25 @@ PullsToLeast = (units : List ℕ) (e : ℕ) → e < length units
 abbrev pub IsOneLine : List ℕ → Type 0
 IsOneLine line = AllByRecursion (λ byte. byte ≢ 10) line
 
--- the lines, each with `\n` behind it, are the trace, or the trace with one more `\n`
-abbrev pub AreLinesOf : List ℕ → List (List ℕ) → Type 0
-AreLinesOf trace lines = (flat_map (λ line. line ++ 10 ∷ []) lines ≡ trace) ⊎ (flat_map (λ line. line ++ 10 ∷ []) lines ≡ trace ++ 10 ∷ [])
+-- the trace isn't empty, and `\n` isn't its last byte
+abbrev pub EndsOpen : List ℕ → Type 0
+EndsOpen trace = trace ≢ [] × ((front : List ℕ) → trace ≢ with_newline front)
 
+-- the lines, each with `\n` behind it, are the trace, or where its last line has no `\n`, the trace with one more
+abbrev pub AreLinesOf : List ℕ → List (List ℕ) → Type 0
+AreLinesOf trace lines = (joined lines ≡ trace) ⊎ (EndsOpen trace × (joined lines ≡ with_newline trace))
+
+-- the lines of a trace
 abbrev pub CutsAtNewlines : Type 0
 CutsAtNewlines = (trace : List ℕ) → AllByRecursion IsOneLine (trace_lines trace) × AreLinesOf trace (trace_lines trace)
+
+-- the lines, each with `\n` behind it, and what is left behind them are the bytes, and neither a line nor what is left has a `\n`
+abbrev pub AreEndedLinesOf : List ℕ → List (List ℕ) → List ℕ → Type 0
+AreEndedLinesOf bytes lines left = AllByRecursion IsOneLine lines × IsOneLine left × (joined lines ++ left ≡ bytes)
+
+-- of a trace over its limit: the lines whose `\n` stands in the bytes that are read, and the one that is cut off
+abbrev pub LeavesOneOpen : Type 0
+LeavesOneOpen = (bytes : List ℕ) → AreEndedLinesOf bytes (ended_lines bytes) (open_line bytes)
 
 -- a command that was read brings no more than a replacement may
 abbrev pub ReadsFittingCommands : Type 0

@@ -1,4 +1,5 @@
 pub mod State
+pub mod Rows
 pub mod Flags
 pub mod Boundaries
 pub mod EndTable
@@ -15,6 +16,7 @@ pub mod Faces
 pub mod Log
 pub mod Printed
 pub mod Words
+pub mod Faults
 pub mod Operations
 pub mod Reading
 pub mod Lines

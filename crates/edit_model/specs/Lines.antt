@@ -3,6 +3,14 @@ use Rattle.std.specs.Prelude.{ℕ, ◌&&◌, ◌||◌, ◌==◌, Bool, List, [],
 use Rattle.std.specs.List.{list_all, flat_map}
 use Rattle.edit_base.specs.declared.bounds.TheConstants.Limits.{LINE_BYTES}
 
+-- a line with the `\n` that ends it
+abbrev pub with_newline : List ℕ → List ℕ
+with_newline line = line ++ 10 ∷ []
+
+-- lines, each with its `\n`
+abbrev pub joined : List (List ℕ) → List ℕ
+joined lines = flat_map with_newline lines
+
 -- a byte in front of the first line
 abbrev pub onto_first : ℕ → List (List ℕ) → List (List ℕ)
 onto_first byte [] = (byte ∷ []) ∷ []
@@ -25,7 +33,7 @@ ended_lines (byte ∷ bytes) = if byte == 10 then [] ∷ ended_lines bytes else 
 
 -- the bytes behind the last `\n`, or all where there is none
 unfoldable pub open_line : List ℕ → List ℕ
-open_line bytes = drop (length (flat_map (λ line. line ++ 10 ∷ []) (ended_lines bytes))) bytes
+open_line bytes = drop (length (joined (ended_lines bytes))) bytes
 
 -- a space, a tab or `\r`
 abbrev pub is_blank_byte : ℕ → Bool

@@ -10,7 +10,7 @@ use Rattle.edit_model.specs.declared.entries.Logged.{Logged}
 use Rattle.edit_model.specs.declared.steps.Step.{Step}
 use Rattle.edit_model.specs.declared.steps.Step.TheVariants as step
 use Rattle.edit_model.specs.State.{State}
-use Rattle.edit_model.specs.Verdicts.{length_after, spans_then, spans_after}
+use Rattle.edit_model.specs.Verdicts.{length_after, span_count_then, span_count_after_set}
 
 -- the length that would stand after an edit
 abbrev pub length_of : State → Step → ℕ
@@ -20,8 +20,8 @@ length_of state (step.Remove id) = length state.units
 
 -- the number of spans that would stand after an edit
 abbrev pub span_count_of : State → Step → ℕ
-span_count_of state (step.Replace start end incoming) = spans_then state start end incoming
-span_count_of state (step.Set id start end flags what) = spans_after state id
+span_count_of state (step.Replace start end incoming) = span_count_then state start end incoming
+span_count_of state (step.Set id start end flags what) = span_count_after_set state id
 span_count_of state (step.Remove id) = length state.spans
 
 -- the number that is printed behind a refusal's name, and 0 where none is

@@ -1,27 +1,47 @@
 -- The operations of a trace: each one row, with its fields and their forms.
-use Rattle.std.specs.Prelude.{ℕ, List, [], ◌∷◌, Bool, true, false, codes}
+use Rattle.std.specs.Prelude.{ℕ, ℤ, pos, negsuc, List, [], ◌∷◌, Bool, true, false, codes}
+use Rattle.edit_model.specs.declared.operations.Op.{Op}
+use Rattle.edit_model.specs.declared.operations.Op.TheVariants.{Replace, SetSpan, RemoveSpan, SpansOver, NextEdge}
+use Rattle.edit_model.specs.declared.commands.Command.{Command}
+use Rattle.edit_model.specs.declared.commands.Command.TheVariants as command
+use Rattle.edit_model.specs.Words.{greatest_id}
 
--- what a field holds: a whole number of 32 bits with sign, one without sign, a string, a string that says what a span
--- carries, or an array of strings that each say a span
+-- what a field holds: a whole number from a least to a greatest one, a string, a string that says what a span carries, or
+-- an array of strings that each say a span
 pub data Form : Type 0 where
-  place : Form
-  id : Form
+  number : ℤ → ℤ → Form
   text : Form
   what : Form
   spans : Form
 
+-- the least and the greatest place
+abbrev pub least_place : ℤ
+least_place = negsuc 2147483647
+
+abbrev pub greatest_place : ℤ
+greatest_place = pos 2147483647
+
+-- a place: 32 bits with sign
+abbrev pub place : Form
+place = number least_place greatest_place
+
+-- an id, and a flags word: 32 bits without sign
+abbrev pub id : Form
+id = number (pos 0) (pos greatest_id)
+
+abbrev pub word : Form
+word = number (pos 0) (pos greatest_id)
+
 -- the field holds a number
 abbrev pub is_number : Form → Bool
-is_number place = true
-is_number id = true
+is_number (number least greatest) = true
 is_number text = false
 is_number what = false
 is_number spans = false
 
 -- the field has to stand
 abbrev pub is_required : Form → Bool
-is_required place = true
-is_required id = true
+is_required (number least greatest) = true
 is_required text = true
 is_required what = true
 is_required spans = false
@@ -30,30 +50,37 @@ pub record Field : Type 0 where
   pub name : List ℕ
   pub form : Form
 
--- which operation a row is
-pub data Kind : Type 0 where
-  replace : Kind
-  set_span : Kind
-  remove_span : Kind
-  spans_over : Kind
-  next_edge : Kind
-
 pub record Operation : Type 0 where
-  pub kind : Kind
   pub name : List ℕ
   pub fields : List Field
 
 abbrev pub field : List ℕ → Form → Field
 field name form = record { name = name; form = form }
 
-abbrev pub operation : Kind → List ℕ → List Field → Operation
-operation kind name fields = record { kind = kind; name = name; fields = fields }
+abbrev pub row : List ℕ → List Field → Operation
+row name fields = record { name = name; fields = fields }
 
-abbrev pub operations : List Operation
-operations =
-    operation replace (codes "replace") (field (codes "start") place ∷ field (codes "end") place ∷ field (codes "text") text ∷ field (codes "spans") spans ∷ [])
-    ∷ operation set_span (codes "set_span") (field (codes "id") id ∷ field (codes "start") place ∷ field (codes "end") place ∷ field (codes "flags") id ∷ field (codes "what") what ∷ [])
-    ∷ operation remove_span (codes "remove_span") (field (codes "id") id ∷ [])
-    ∷ operation spans_over (codes "spans_over") (field (codes "start") place ∷ field (codes "end") place ∷ [])
-    ∷ operation next_edge (codes "next_edge") (field (codes "start") place ∷ field (codes "limit") place ∷ [])
-    ∷ []
+-- ---- the table
+
+-- what an operation is called, and its fields
+abbrev pub operation : Op → Operation
+operation Replace =
+    row (codes "replace") (field (codes "start") place ∷ field (codes "end") place ∷ field (codes "text") text ∷ field (codes "spans") spans ∷ [])
+operation SetSpan =
+    row (codes "set_span")
+    (field (codes "id") id ∷ field (codes "start") place ∷ field (codes "end") place ∷ field (codes "flags") word ∷ field (codes "what") what ∷ [])
+operation RemoveSpan = row (codes "remove_span") (field (codes "id") id ∷ [])
+operation SpansOver = row (codes "spans_over") (field (codes "start") place ∷ field (codes "end") place ∷ [])
+operation NextEdge = row (codes "next_edge") (field (codes "start") place ∷ field (codes "limit") place ∷ [])
+
+-- every operation, in the order of the table
+abbrev pub ops : List Op
+ops = Replace ∷ SetSpan ∷ RemoveSpan ∷ SpansOver ∷ NextEdge ∷ []
+
+-- the operation of a command
+abbrev pub op_of : Command → Op
+op_of (command.Replace start end incoming) = Replace
+op_of (command.SetSpan span start end flags it) = SetSpan
+op_of (command.RemoveSpan span) = RemoveSpan
+op_of (command.SpansOver start end) = SpansOver
+op_of (command.NextEdge start limit) = NextEdge

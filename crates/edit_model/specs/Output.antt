@@ -4,7 +4,6 @@ use Rattle.std.specs.List.{concat}
 use Rattle.edit_base.specs.declared.bounds.TheConstants.Limits.{TRACE_BYTES, LINE_BYTES}
 use Rattle.edit_model.specs.declared.faults.TraceFault.{TraceFault}
 use Rattle.edit_model.specs.declared.faults.TraceFault.TheVariants as fault
-use Rattle.edit_model.specs.declared.settings.Settings.{Settings}
 use Rattle.edit_model.specs.declared.entries.Logged.{Logged}
 use Rattle.edit_model.specs.declared.commands.Command.{Command}
 use Rattle.edit_model.specs.declared.commands.Command.TheVariants as commands
@@ -19,18 +18,16 @@ use Rattle.edit_model.specs.Changed.{state_after, on_done}
 use Rattle.edit_model.specs.Filtered.{filtered_step}
 use Rattle.edit_model.specs.Log.{logged, entry_of, range_logged}
 use Rattle.edit_model.specs.Printed.{spaced, line_end, header_line, entry_line, reply_line, found_lines, edge_line, end_block}
+use Rattle.edit_model.specs.Operations.{operation, op_of}
 use Rattle.edit_model.specs.Reading.{read_command}
+use Rattle.edit_model.specs.Settings.{Settings}
 use Rattle.edit_model.specs.Lines.{trace_lines, ended_lines, open_line, is_blank}
 
 -- ---- one command
 
 -- the operation's name
 abbrev pub name_of : Command → List ℕ
-name_of (commands.Replace start end incoming) = codes "replace"
-name_of (commands.SetSpan id start end flags what) = codes "set_span"
-name_of (commands.RemoveSpan id) = codes "remove_span"
-name_of (commands.SpansOver start end) = codes "spans_over"
-name_of (commands.NextEdge start limit) = codes "next_edge"
+name_of asked = (operation (op_of asked)).name
 
 -- the edit that a command asks for, if it asks for one
 abbrev pub step_of : Command → Option Step

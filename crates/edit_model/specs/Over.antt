@@ -8,10 +8,14 @@ use Rattle.edit_base.specs.declared.rows.Pick.TheVariants.{All, Watches, Layout}
 use Rattle.edit_model.specs.State.{Span}
 use Rattle.edit_model.specs.Flags.{priority_of}
 
+-- the span touches the range: they share a point
+abbrev pub touches : ℕ → ℕ → Span → Bool
+touches start end span = nat_le span.start end && nat_le start span.end
+
 -- the span touches the range, and does more than touch it where neither is empty
 abbrev pub lies_over : ℕ → ℕ → Span → Bool
 lies_over start end span =
-    nat_le span.start end && nat_le start span.end
+    touches start end span
     && (span.start == span.end || start == end || (not (span.start == end) && not (span.end == start)))
 
 abbrev pub is_watch : What → Bool

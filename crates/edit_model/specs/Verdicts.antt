@@ -90,12 +90,12 @@ abbrev pub length_after : State → ℤ → ℤ → Incoming → ℕ
 length_after state start end incoming = spliced_length (length state.units) (place start) (place end) (length incoming.units)
 
 -- the number of spans that would stand after a replacement
-abbrev pub spans_then : State → ℤ → ℤ → Incoming → ℕ
-spans_then state start end incoming = length (replaced state (place start) (place end) incoming).spans
+abbrev pub span_count_then : State → ℤ → ℤ → Incoming → ℕ
+span_count_then state start end incoming = length (replaced state (place start) (place end) incoming).spans
 
 -- the number of spans that would stand after a set
-abbrev pub spans_after : State → ℕ → ℕ
-spans_after state id = if is_attached id state.spans then length state.spans else length state.spans + 1
+abbrev pub span_count_after_set : State → ℕ → ℕ
+span_count_after_set state id = if is_attached id state.spans then length state.spans else length state.spans + 1
 
 -- ---- tables
 
@@ -108,7 +108,7 @@ replace_lines state start end incoming =
     ∷ (goes_below start end, Refused Below)
     ∷ (changes_nothing state start end incoming, NoChange)
     ∷ (nat_lt TEXT (length_after state start end incoming), Refused TooLong)
-    ∷ (nat_lt SPANS (spans_then state start end incoming), Refused SpansFull)
+    ∷ (nat_lt SPANS (span_count_then state start end incoming), Refused SpansFull)
     ∷ []
 
 abbrev pub set_lines : State → ℕ → ℕ → ℤ → ℤ → ℕ → What → List (Bool × Verdict)
@@ -122,7 +122,7 @@ set_lines state slots id start end flags what =
     ∷ (breaks_paragraph state flags start, Refused ParagraphStart)
     ∷ (breaks_paragraph state flags end, Refused ParagraphEnd)
     ∷ (is_ignored flags start end, Ignored)
-    ∷ (nat_lt SPANS (spans_after state id), Refused SpansFull)
+    ∷ (nat_lt SPANS (span_count_after_set state id), Refused SpansFull)
     ∷ []
 
 abbrev pub remove_lines : State → ℕ → List (Bool × Verdict)

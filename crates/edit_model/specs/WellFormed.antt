@@ -20,12 +20,19 @@ is_kept_what SelStart = true
 is_kept_what SelEnd = true
 is_kept_what Composing = true
 
+-- the id and the flags word of the composing region
+abbrev pub composing_id : ℕ
+composing_id = 2
+
+abbrev pub composing_flags : ℕ
+composing_flags = 289
+
 -- the selection's ends and the composing region carry their own flags and whats, and no other span does
 abbrev pub IsKeptRight : Span → Type 0
 IsKeptRight span =
     (span.id ≡ 0 → (span.flags ≡ 546) × (span.what ≡ SelStart) × (span.start ≡ span.end))
     × (span.id ≡ 1 → (span.flags ≡ 34) × (span.what ≡ SelEnd) × (span.start ≡ span.end))
-    × (span.id ≡ 2 → (span.flags ≡ 289) × (span.what ≡ Composing))
+    × (span.id ≡ composing_id → (span.flags ≡ composing_flags) × (span.what ≡ Composing))
     × (2 < span.id → is_kept_what span.what ≡ false)
 
 -- a span over these units
@@ -43,10 +50,20 @@ abbrev pub HasDistinctIds : List Span → Type 0
 HasDistinctIds [] = Unit {0}
 HasDistinctIds (span ∷ spans) = (is_attached span.id spans ≡ false) × HasDistinctIds spans
 
--- all that holds of a state but for its watch spans
+-- two spans don't watch for one slot
+abbrev pub HasOtherSeat : What → What → Type 0
+HasOtherSeat (Watch slot) (Watch other) = slot ≢ other
+HasOtherSeat what other = Unit {0}
+
+abbrev pub HasDistinctSeats : List Span → Type 0
+HasDistinctSeats [] = Unit {0}
+HasDistinctSeats (span ∷ spans) = AllByRecursion (λ other. HasOtherSeat span.what other.what) spans × HasDistinctSeats spans
+
+-- all that holds of a state without knowing how many slots there are
 pub record IsWellFormed (state : State) : Type 0 where
   pub spans : AllByRecursion (IsSpanOver state.units) state.spans
   pub distinct : HasDistinctIds state.spans
+  pub apart : HasDistinctSeats state.spans
   pub few : length state.spans ≤ SPANS
   pub short : length state.units ≤ TEXT
   pub selection : is_attached 0 state.spans ≡ is_attached 1 state.spans
@@ -62,16 +79,6 @@ HasSlot slots SelStart = Unit {0}
 HasSlot slots SelEnd = Unit {0}
 HasSlot slots Composing = Unit {0}
 
--- two spans don't watch for one slot
-abbrev pub HasOtherSeat : What → What → Type 0
-HasOtherSeat (Watch slot) (Watch other) = slot ≢ other
-HasOtherSeat what other = Unit {0}
-
-abbrev pub HasDistinctSeats : List Span → Type 0
-HasDistinctSeats [] = Unit {0}
-HasDistinctSeats (span ∷ spans) = AllByRecursion (λ other. HasOtherSeat span.what other.what) spans × HasDistinctSeats spans
-
--- each watcher sits on one span, and has a slot
-pub record IsSeated (slots : ℕ) (spans : List Span) : Type 0 where
-  pub in_range : AllByRecursion (λ span. HasSlot slots span.what) spans
-  pub apart : HasDistinctSeats spans
+-- every watch span has a slot
+abbrev pub IsSeated : ℕ → List Span → Type 0
+IsSeated slots spans = AllByRecursion (λ span. HasSlot slots span.what) spans

@@ -1,5 +1,9 @@
 //! What a line of a trace asks for.
 
+ghost use Rattle.std.specs.Prelude.{◌≡◌};
+ghost use Rattle.edit_model.specs.Operations.{op_of};
+
+use crate::operations::Op;
 use edit_base::{Incoming, What};
 
 /// A command of a trace, one variant for each operation.
@@ -33,4 +37,19 @@ pub enum Command {
         start: i32,
         limit: i32,
     },
+}
+
+impl Command {
+    /// The operation that it is a command of.
+    pub fn op(&self) -> Op
+        ensures { result ≡ op_of self.now }
+    {
+        match self {
+            Command::Replace { .. } => Op::Replace,
+            Command::SetSpan { .. } => Op::SetSpan,
+            Command::RemoveSpan { .. } => Op::RemoveSpan,
+            Command::SpansOver { .. } => Op::SpansOver,
+            Command::NextEdge { .. } => Op::NextEdge,
+        }
+    }
 }

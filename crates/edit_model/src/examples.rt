@@ -1,6 +1,6 @@
 //! Worked examples of the definitions, each the contract of a function that does nothing.
 
-ghost use Rattle.edit_model.specs.Examples.{ReadsLines, ReadsSpans, FiltersTexts, AttachesSpans, PrintsLines};
+ghost use Rattle.edit_model.specs.Examples.{ReadsLines, ReadsSpans, FiltersTexts, AttachesSpans, AttachesRegion, PrintsLines};
 
 /// Some lines of a trace, and what they ask for.
 pub fn reads_lines()
@@ -15,7 +15,8 @@ pub fn filters_texts()
 
 /// Some spans that come with a text.
 pub fn attaches_spans()
-    ensures { AttachesSpans }
+    ensures spans { AttachesSpans }
+    ensures region { AttachesRegion }
 {}
 
 /// Some lines as they are printed.

@@ -1,6 +1,6 @@
 //! What the definitions mean: each law is the contract of a function that does nothing.
 
-ghost use Rattle.edit_model.specs.Laws.{OthersChangeNothing, KeepsWellFormed, KeepsSeats, StaysInText, KeepsOrder, KeepsBoundaries, PullsToLeast, AttachesFirst, TakesPlaces, LeavesPlaces, CutsNoPair, KeepsLength, FiltersBrought, CutsAtNewlines, ReadsFittingCommands};
+ghost use Rattle.edit_model.specs.Laws.{OthersChangeNothing, KeepsWellFormed, KeepsSeats, HasFewWatchers, StaysInText, KeepsOrder, KeepsBoundaries, PullsToLeast, AttachesFirst, TakesPlaces, LeavesPlaces, CutsNoPair, KeepsLength, FiltersBrought, ClippingChangesNothing, CutsAtNewlines, LeavesOneOpen, ReadsFittingCommands};
 
 /// Only an edit whose verdict is done changes the state.
 pub fn edits_that_are_not_done_change_nothing()
@@ -8,10 +8,11 @@ pub fn edits_that_are_not_done_change_nothing()
 {}
 
 /// Every edit leads from a well formed state to a well formed state, for any number of slots, where the spans that it
-/// brings have their ends in order.
+/// brings have their ends in order. Each watcher keeps a slot, and there are no more watchers than slots.
 pub fn edits_keep_states_well_formed()
     ensures well_formed { KeepsWellFormed }
     ensures seats { KeepsSeats }
+    ensures few { HasFewWatchers }
 {}
 
 /// The end table: ends stay in the text and in order, and paragraph ends stay at boundaries.
@@ -22,25 +23,30 @@ pub fn ends_stay_where_they_may()
     ensures least { PullsToLeast }
 {}
 
-/// Of the incoming spans of one id at most one is attached: the first that may stand where it would, unless a span of this
-/// id is there.
+/// Of the incoming spans of one id at most one is attached: the first that may stand where it would, unless a span of
+/// this id is there.
 pub fn incoming_spans_are_attached_once()
     ensures { AttachesFirst }
 {}
 
 /// A filter takes places in order to places of what it keeps, and where it keeps all, it leaves them alone. A length
-/// filter cuts no pair and keeps to its length. What is filtered is still what a replacement may bring.
+/// filter cuts no pair and keeps to its length. What is filtered is still what a replacement may bring. Without filters
+/// an edit does what it does as given.
 pub fn filters_keep_places()
     ensures in_order { TakesPlaces }
     ensures alone { LeavesPlaces }
     ensures whole_pairs { CutsNoPair }
     ensures short { KeepsLength }
     ensures brought { FiltersBrought }
+    ensures unfiltered { ClippingChangesNothing }
 {}
 
-/// The lines of a trace hold no `\n`, and joined by `\n` they are the trace.
+/// The lines of a trace hold no `\n`, and with `\n` behind each they are the trace; one `\n` more only where the trace
+/// ends in a line without it. Of a trace over its limit the lines that are ended, each with its `\n`, and the open line
+/// behind them are the bytes that were read.
 pub fn lines_are_cut_at_newlines()
-    ensures { CutsAtNewlines }
+    ensures whole { CutsAtNewlines }
+    ensures over_limit { LeavesOneOpen }
 {}
 
 /// A command that was read brings no more than a replacement may.

@@ -1,7 +1,6 @@
 //! The definitions and laws that every contract cites, in `specs/`, and the plain types that they speak of.
 #![tactic(auto)]
 
-mod changes;
 mod commands;
 mod entries;
 mod examples;
@@ -9,11 +8,10 @@ mod faults;
 mod filters;
 mod kinds;
 mod laws;
+mod operations;
 mod replies;
-mod settings;
 mod steps;
 
-pub use changes::{Change, MovedRow};
 pub use commands::Command;
 pub use entries::{LogEntry, Logged};
 pub use examples::{attaches_spans, filters_texts, prints_lines, reads_lines};
@@ -25,6 +23,6 @@ pub use laws::{
     edits_that_are_not_done_change_nothing, ends_stay_where_they_may, filters_keep_places,
     incoming_spans_are_attached_once, lines_are_cut_at_newlines,
 };
+pub use operations::Op;
 pub use replies::Reply;
-pub use settings::Settings;
 pub use steps::Step;

@@ -20,7 +20,8 @@ module _ (keep : ℕ → Bool) (units : List ℕ) where
       none at is = rw is refl
 
   -- the count at the next place goes behind the others
-  pub counts_more : (counts : List ℕ) (i kept : ℕ) → CountsTo keep units counts i → kept ≡ count_before keep units (i + 1) → CountsTo keep units (counts ++ kept ∷ []) (i + 1)
+  pub counts_more : (counts : List ℕ) (i kept : ℕ) → CountsTo keep units counts i → kept ≡ count_before keep units (i + 1)
+      → CountsTo keep units (counts ++ kept ∷ []) (i + 1)
   counts_more counts i kept so_far is = record {
     long = length_push counts kept ∙ ap (λ n. n + 1) so_far.long;
     each = λ at within. elim (cases_lt at (i + 1)) [

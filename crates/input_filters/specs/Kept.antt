@@ -1,5 +1,8 @@
 -- Filters that look at each unit alone, and how many units they keep before each place.
 use Rattle.std.specs.Prelude.{ℕ, ◌≡◌, ◌≤◌, ◌+◌, Bool, true, List, length, take, filter, slice_index}
+use Rattle.std.specs.List.{All}
+use Rattle.edit_base.specs.declared.rows.Incoming.{Incoming}
+use Rattle.edit_base.specs.declared.rows.TheConstants.Incoming.{MOST}
 use Rattle.edit_base.specs.declared.rows.NewSpan.{NewSpan}
 use Rattle.edit_model.specs.declared.filters.Filter.{Filter}
 use Rattle.edit_model.specs.declared.filters.Filter.TheVariants.{Length, AsciiUpper, Allow, NoNewline}
@@ -28,3 +31,8 @@ pub record AreCounts (keep : ℕ → Bool) (units counts : List ℕ) : Type 0 wh
 -- both places of a span lie in a text of this length
 abbrev pub LiesIn : ℕ → NewSpan → Type 0
 LiesIn end span = (span.start ≤ end) × (span.end ≤ end)
+
+-- no more units than a replacement may bring, with every span in them
+pub record IsClipped (incoming : Incoming) : Type 0 where
+  pub short : length incoming.units ≤ MOST
+  pub inside : All (LiesIn (length incoming.units)) incoming.spans

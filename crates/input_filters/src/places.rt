@@ -6,7 +6,7 @@ ghost use Rattle.edit_model.specs.Filtered.{at_places, kept_before};
 ghost use Rattle.input_filters.specs.Kept.{is_kept, count_before, AreCounts, LiesIn};
 
 use crate::units::{first_kept, is_kept};
-use edit_base::{NewSpan, NoMemory};
+use edit_base::{Incoming, NewSpan, NoMemory};
 use edit_model::Filter;
 
 /// Each place goes to the number of units before it that the filter keeps, of these that come to so many others. The
@@ -18,7 +18,7 @@ pub fn filter_places(
     spans: &mut [NewSpan],
     counts: &mut Vec<u32>,
 ) -> Result<(), NoMemory>
-    requires short { length units.now ≤ 1073741824 }
+    requires short { length units.now ≤ Incoming.MOST }
     requires inside { All (LiesIn (length units.now)) spans.old }
     ensures ok { OnOk result (spans.new ≡ map (at_places (kept_before filter.now others units.now)) spans.old) }
     ensures err { OnErr result (spans.new ≡ spans.old) }
@@ -46,15 +46,15 @@ pub fn clip(spans: &mut [NewSpan], most: u32)
     }
 }
 
-/// Each place goes to the number of units before it that the filter keeps whatever stands beside them. Where there are
-/// no spans, nothing is counted.
+// Each place goes to the number of units before it that the filter keeps whatever stands beside them. Where there are
+// no spans, nothing is counted.
 fn count_places(
     filter: &Filter,
     units: &[u16],
     spans: &mut [NewSpan],
     counts: &mut Vec<u32>,
 ) -> Result<(), NoMemory>
-    requires short { length units.now ≤ 1073741824 }
+    requires short { length units.now ≤ Incoming.MOST }
     requires inside { All (LiesIn (length units.now)) spans.old }
     ensures ok { OnOk result (spans.new ≡ map (at_places (count_before (is_kept filter.now) units.now)) spans.old) }
     ensures err { OnErr result (spans.new ≡ spans.old) }
@@ -67,9 +67,9 @@ fn count_places(
     Ok(())
 }
 
-/// How many units before each place the filter keeps, whatever stands beside them.
+// How many units before each place the filter keeps, whatever stands beside them.
 fn count_kept(filter: &Filter, units: &[u16], counts: &mut Vec<u32>) -> Result<(), NoMemory>
-    requires short { length units.now ≤ 1073741824 }
+    requires short { length units.now ≤ Incoming.MOST }
     ensures { OnOk result (AreCounts (is_kept filter.now) units.now counts.new.items) }
 {
     counts.clear();
@@ -83,7 +83,7 @@ fn count_kept(filter: &Filter, units: &[u16], counts: &mut Vec<u32>) -> Result<(
     Ok(())
 }
 
-/// Each place goes to the count that stands at it.
+// Each place goes to the count that stands at it.
 fn look_up(spans: &mut [NewSpan], counts: &[u32])
     requires inside { All (λ span. (span.start < length counts.now) × (span.end < length counts.now)) spans.old }
     ensures { spans.new ≡ map (at_places (slice_index counts.now)) spans.old }

@@ -10,7 +10,7 @@ use std::alloc::Global;
 use std::process::Abort;
 use std::test::Fail;
 
-/// A filter that the table names.
+// A filter that the table names.
 #[derive(Clone, Copy, Debug)]
 enum Rule {
     Length(u32),
@@ -20,27 +20,27 @@ enum Rule {
     NoNewline,
 }
 
-/// The length of a text, and the start and the end of the range that is replaced.
+// The length of a text, and the start and the end of the range that is replaced.
 type Over = (u32, u32, u32);
 
-/// The start and the end of a span.
+// The start and the end of a span.
 type Places = (u32, u32);
 
-/// Units, and the places of the spans over them.
+// Units, and the places of the spans over them.
 type Spanned<'a> = (&'a [u16], &'a [Places]);
 
 const EMPTY: Over = (0, 0, 0);
 
-/// A pair between two letters.
+// A pair between two letters.
 const PAIR: &[u16] = &[0x61, 0xD83D, 0xDE00, 0x62];
 
-/// A letter, a line feed and two letters.
+// A letter, a line feed and two letters.
 const LINES: &[u16] = &[0x61, 10, 0x62, 0x63];
 
-/// The range of the capitals.
+// The range of the capitals.
 const CAPITALS: &[(u16, u16)] = &[(65, 90)];
 
-/// A span, whose ends come in order.
+// A span, whose ends come in order.
 fn span(places: Places) -> NewSpan
     ensures { IsOrdered result }
 {
@@ -79,7 +79,7 @@ fn filters_of(alloc: Global, rules: &[Rule]) -> Result<Vec<Filter>, NoMemory> {
     Ok(filters)
 }
 
-/// What brings these units, and spans at these places.
+// What brings these units, and spans at these places.
 fn bringing(
     rt: &impl Abort,
     alloc: Global,
@@ -101,7 +101,7 @@ fn bringing(
     })
 }
 
-/// What the filters make of these units, and spans at these places.
+// What the filters make of these units, and spans at these places.
 fn made(
     rt: &impl Abort,
     alloc: Global,
@@ -117,7 +117,7 @@ fn made(
     filter_all(alloc, &filters, &incoming, len, start, end)
 }
 
-/// The filters keep these units of the text.
+// The filters keep these units of the text.
 fn keeps(
     rt: &impl Abort,
     alloc: Global,
@@ -132,7 +132,7 @@ fn keeps(
     Ok(())
 }
 
-/// Over an empty text, the filters take the places of spans to these, in the units that they keep.
+// Over an empty text, the filters take the places of spans to these, in the units that they keep.
 fn takes(
     rt: &impl Abort,
     alloc: Global,
@@ -154,7 +154,7 @@ fn takes(
     Ok(())
 }
 
-/// Filters over a text, the units that come, and those that are kept.
+// Filters over a text, the units that come, and those that are kept.
 type Units<'a> = (&'a [Rule], Over, &'a [u16], &'a [u16]);
 
 #[test]
@@ -237,7 +237,7 @@ fn filters_keep_units(rt: HostRuntime) -> Result<(), Fail> {
     Ok(())
 }
 
-/// Filters, what comes, and what is left.
+// Filters, what comes, and what is left.
 type Spans<'a> = (&'a [Rule], Spanned<'a>, Spanned<'a>);
 
 #[test]

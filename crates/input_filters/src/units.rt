@@ -4,11 +4,8 @@ ghost use Rattle.std.specs.Prelude.{◌≡◌, ◌≤◌, map};
 ghost use Rattle.edit_model.specs.Filtered.{kept_first, upper, is_in, is_allowed, passed};
 ghost use Rattle.input_filters.specs.Kept.{is_kept, kept_of};
 
-use edit_base::is_high;
+use edit_base::{NEWLINE, is_high};
 use edit_model::{Filter, UnitRange};
-
-/// The unit that ends a line.
-const NEWLINE: u16 = 10;
 
 /// The units become those that the filter lets through, where the text has so many others.
 pub fn filter_units(filter: &Filter, others: u32, units: &mut Vec<u16>)
@@ -57,7 +54,7 @@ fn raised(unit: u16) -> u16
     }
 }
 
-/// Only the units that the filter keeps whatever stands beside them.
+// Only the units that the filter keeps whatever stands beside them.
 fn keep_some(filter: &Filter, units: &mut Vec<u16>)
     ensures { units.new.items ≡ kept_of filter.now units.old.items }
 {

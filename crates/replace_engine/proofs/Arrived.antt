@@ -8,20 +8,23 @@ use Rattle.edit_base.specs.declared.rows.SpanRow.{SpanRow}
 use Rattle.edit_model.specs.State.{Span}
 use Rattle.edit_model.specs.Attached.{has_id, is_attached}
 use Rattle.edit_model.specs.Brought.{has_place, is_skipped, newcomers}
-use Rattle.edit_model.specs.Changed.{span_of}
+use Rattle.edit_model.specs.Rows.{span_of}
 use Rattle.edit_model.specs.Replaced.{is_emptied, moved_span, kept_spans}
 use Rattle.edit_model.proofs.SpanLists.{attached-map}
 use Rattle.edit_model.proofs.Newcomers.{newcomers-append, attached-newcomers}
-use Rattle.replace_engine.specs.declared.cut.Cut.{Cut}
-use Rattle.replace_engine.specs.Rows.{spans_in}
+use Rattle.text_cut.specs.Halves.{joined}
+use Rattle.text_cut.specs.declared.cut.Cut.{Cut}
+use Rattle.edit_model.specs.Rows.{spans_in}
 use Rattle.replace_engine.specs.Moved.{is_emptied_row}
 use Rattle.replace_engine.specs.Arrivals.{arrivals, placed, stayed, text_then}
-use Rattle.replace_engine.proofs.Lists.{list_any-map, list_any-filter}
+use Rattle.edit_model.proofs.Tests.{list_any-map}
+use Rattle.replace_engine.proofs.Lists.{list_any-filter}
 
 module _ (cut : Cut) (attached : List Span) where
   -- one more incoming span
   pub arrivals-more : (spans : List NewSpan) (i : ℕ) (d : NewSpan) → i < length spans
-      → arrivals cut attached (take (i + 1) spans) ≡ arrivals cut attached (take i spans) ++ arrivals cut (attached ++ arrivals cut attached (take i spans)) (get_or spans i d ∷ [])
+      → arrivals cut attached (take (i + 1) spans)
+      ≡ arrivals cut attached (take i spans) ++ arrivals cut (attached ++ arrivals cut attached (take i spans)) (get_or spans i d ∷ [])
   arrivals-more spans i d below =
       ap (newcomers (text_then cut) attached) (map_more (placed cut) spans i d below)
       ∙ newcomers-append (text_then cut) attached (map (placed cut) (take i spans)) (placed cut (get_or spans i d) ∷ [])
@@ -34,7 +37,12 @@ module _ (cut : Cut) (attached : List Span) where
       let all = ap (λ list. newcomers (text_then cut) attached (map (placed cut) list)) (sym (take-append-drop k spans))
       ∙ ap (newcomers (text_then cut) attached) (map-append (placed cut) (take k spans) (drop k spans))
       ∙ newcomers-append (text_then cut) attached front rest in
-      omega (arith, ap length all, length-append (newcomers (text_then cut) attached front) (newcomers (text_then cut) (attached ++ newcomers (text_then cut) attached front) rest))
+      omega (
+        arith,
+        ap length all,
+        length-append (newcomers (text_then cut) attached front)
+            (newcomers (text_then cut) (attached ++ newcomers (text_then cut) attached front) rest),
+      )
 
 -- an id is attached behind arrivals where it was, or one of the incoming spans that has a place brings it
 pub attached-arrivals : (cut : Cut) (id : ℕ) (attached : List Span) (spans : List NewSpan) → is_attached id (attached ++ arrivals cut attached spans)
@@ -47,12 +55,28 @@ length-stayed-le cut rows =
     let spans : List Span = spans_in rows in
     omega (
       arith,
-      length-map (kept_spans cut.start cut.end cut.grown spans) (moved_span cut.start cut.end cut.grown cut.units.now),
+      length-map (kept_spans cut.start cut.end cut.grown spans) (moved_span cut.start cut.end cut.grown (joined cut.text)),
       length-filter_both (is_emptied cut.start cut.end cut.grown) (λ span. not (is_emptied cut.start cut.end cut.grown span)) (λ span. refl) spans,
       length-map rows span_of,
     )
 
 pub ruleset arrived = (attached-arrivals, length-stayed-le)
+
+-- some spans come, and behind them others
+pub arrivals-append : (cut : Cut) (attached : List Span) (spans others : List NewSpan)
+    → arrivals cut attached (spans ++ others) ≡ arrivals cut attached spans ++ arrivals cut (attached ++ arrivals cut attached spans) others
+arrivals-append cut attached spans others =
+    ap (newcomers (text_then cut) attached) (map-append (placed cut) spans others)
+    ∙ newcomers-append (text_then cut) attached (map (placed cut) spans) (map (placed cut) others)
+
+pub length-arrivals-append : (cut : Cut) (attached : List Span) (spans others : List NewSpan)
+    → length (arrivals cut attached (spans ++ others))
+    ≡ length (arrivals cut attached spans) + length (arrivals cut (attached ++ arrivals cut attached spans) others)
+length-arrivals-append cut attached spans others =
+    ap length (arrivals-append cut attached spans others)
+    ∙ length-append (arrivals cut attached spans) (arrivals cut (attached ++ arrivals cut attached spans) others)
+
+pub ruleset one_by_one = (arrivals-append, length-arrivals-append)
 
 -- ---- one more span of a list
 
@@ -69,7 +93,8 @@ module _ (cut : Cut) (attached : List Span) (spans : List NewSpan) (i : ℕ) (d 
       → arrives ≡ not (is_skipped (text_then cut) (attached ++ arrivals cut attached (take i spans)) (placed cut (get_or spans i d)))
       → cond arrives (count + 1) count ≡ length (arrivals cut attached (take (i + 1) spans))
   count-more arrives count so_far is =
-      count_one (is_skipped (text_then cut) (attached ++ arrivals cut attached (take i spans)) (placed cut (get_or spans i d))) arrives (placed cut (get_or spans i d))
+      count_one (is_skipped (text_then cut) (attached ++ arrivals cut attached (take i spans)) (placed cut (get_or spans i d))) arrives
+      (placed cut (get_or spans i d))
       (arrivals cut attached (take i spans)) count is so_far
       ∙ sym (ap length (arrivals-more cut attached spans i d below))
 
@@ -80,7 +105,8 @@ module _ (cut : Cut) (attached : List Span) (spans : List NewSpan) (i : ℕ) (d 
 
     pub next_within : length (arrivals cut attached (take i spans)) + length (arrivals cut now (get_or spans i d ∷ [])) ≤ length (arrivals cut attached spans)
     next_within =
-        let all : length (arrivals cut attached (take (i + 1) spans)) ≡ length (arrivals cut attached (take i spans)) + length (arrivals cut now (get_or spans i d ∷ [])) =
+        let all : length (arrivals cut attached (take (i + 1) spans))
+        ≡ length (arrivals cut attached (take i spans)) + length (arrivals cut now (get_or spans i d ∷ [])) =
         ap length next_arrives ∙ length-append (arrivals cut attached (take i spans)) (arrivals cut now (get_or spans i d ∷ [])) in
         omega (arith, all, length-arrivals-take cut attached spans (i + 1))
 
@@ -88,6 +114,20 @@ module _ (cut : Cut) (attached : List Span) (spans : List NewSpan) (i : ℕ) (d 
 pub attached-stayed : (cut : Cut) (id : ℕ) (rows : List SpanRow)
     → list_any (λ row. has_id id (span_of row) && not (is_emptied_row cut.start cut.end cut.grown row)) rows ≡ is_attached id (stayed cut rows)
 attached-stayed cut id rows =
-    sym (attached-map (moved_span cut.start cut.end cut.grown cut.units.now) (λ span. refl) id (kept_spans cut.start cut.end cut.grown (spans_in rows))
+    sym (attached-map (moved_span cut.start cut.end cut.grown (joined cut.text)) (λ span. refl) id (kept_spans cut.start cut.end cut.grown (spans_in rows))
     ∙ list_any-filter (has_id id) (λ span. not (is_emptied cut.start cut.end cut.grown span)) (spans_in rows)
     ∙ list_any-map span_of (λ span. has_id id span && not (is_emptied cut.start cut.end cut.grown span)) rows)
+
+-- as many rows stand as stood, and as came
+pub length-came : (new old : List SpanRow) (came : List Span) → spans_in new ≡ spans_in old ++ came → length new ≡ length old + length came
+length-came new old came is =
+    sym (length-map new span_of) ∙ ap length is ∙ length-append (spans_in old) came ∙ ap (λ n. n + length came) (length-map old span_of)
+
+-- one span comes, or is skipped
+pub length-one : (cut : Cut) (attached : List Span) (span : NewSpan)
+    → length (arrivals cut attached (span ∷ [])) ≡ cond (not (is_skipped (text_then cut) attached (placed cut span))) 1 0
+length-one cut attached span = by_test (is_skipped (text_then cut) attached (placed cut span))
+  where
+    by_test : (skipped : Bool) → length (cond skipped [] (placed cut span ∷ [])) ≡ cond (not skipped) 1 0
+    by_test true = refl
+    by_test false = refl

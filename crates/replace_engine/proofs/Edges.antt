@@ -6,9 +6,9 @@ use Rattle.std.proofs.lemmas.List.{map_more, append-nil}
 use Rattle.std.proofs.lemmas.List.Elements.{filter-append}
 use Rattle.edit_base.specs.declared.rows.SpanRow.{SpanRow}
 use Rattle.edit_model.specs.State.{Span}
-use Rattle.edit_model.specs.Changed.{span_of}
+use Rattle.edit_model.specs.Rows.{span_of}
 use Rattle.edit_model.specs.Over.{edges, least}
-use Rattle.replace_engine.specs.Rows.{spans_in}
+use Rattle.edit_model.specs.Rows.{spans_in}
 
 least_push : (limit : ℕ) (places : List ℕ) (place : ℕ) → least limit (places ++ place ∷ []) ≡ min place (least limit places)
 least_push limit [] place = refl
@@ -36,14 +36,18 @@ module _ (after limit : ℕ) where
   least_between : List ℕ → ℕ
   least_between places = least limit (filter (lies_between after limit) places)
 
-  one_step : (test : Bool) (places : List ℕ) (edge : ℕ) → lies_between after limit edge ≡ test → least limit (filter (lies_between after limit) places ++ cond test (edge ∷ []) []) ≡ nearer edge after (least_between places)
+  one_step : (test : Bool) (places : List ℕ) (edge : ℕ) → lies_between after limit edge ≡ test
+      → least limit (filter (lies_between after limit) places ++ cond test (edge ∷ []) []) ≡ nearer edge after (least_between places)
   unfolding least_between
-  one_step true places edge is = least_push limit (filter (lies_between after limit) places) edge ∙ taken after limit edge (least_between places) (least_below limit (filter (lies_between after limit) places)) is
-  one_step false places edge is = ap (least limit) (append-nil (filter (lies_between after limit) places)) ∙ passed after limit edge (least_between places) (least_below limit (filter (lies_between after limit) places)) is
+  one_step true places edge is = least_push limit (filter (lies_between after limit) places) edge
+      ∙ taken after limit edge (least_between places) (least_below limit (filter (lies_between after limit) places)) is
+  one_step false places edge is = ap (least limit) (append-nil (filter (lies_between after limit) places))
+      ∙ passed after limit edge (least_between places) (least_below limit (filter (lies_between after limit) places)) is
 
   least_more : (places : List ℕ) (edge : ℕ) → least_between (places ++ edge ∷ []) ≡ nearer edge after (least_between places)
   unfolding least_between
-  least_more places edge = ap (least limit) (filter-append (lies_between after limit) places (edge ∷ [])) ∙ one_step (lies_between after limit edge) places edge refl
+  least_more places edge =
+      ap (least limit) (filter-append (lies_between after limit) places (edge ∷ [])) ∙ one_step (lies_between after limit edge) places edge refl
 
   edges_more : (spans : List Span) (span : Span) → edges (spans ++ span ∷ []) ≡ (edges spans ++ span.start ∷ []) ++ span.end ∷ []
   edges_more [] span = refl
@@ -52,7 +56,8 @@ module _ (after limit : ℕ) where
   -- the two edges of one more row
   pub next_more : (rows : List SpanRow) (i : ℕ) (d : SpanRow) → i < length rows
       → least limit (filter (lies_between after limit) (edges (spans_in (take (i + 1) rows))))
-      ≡ nearer (get_or rows i d).end after (nearer (get_or rows i d).start after (least limit (filter (lies_between after limit) (edges (spans_in (take i rows))))))
+      ≡ nearer (get_or rows i d).end after
+      (nearer (get_or rows i d).start after (least limit (filter (lies_between after limit) (edges (spans_in (take i rows))))))
   unfolding least_between
   next_more rows i d below =
       ap (λ spans. least_between (edges spans)) (map_more span_of rows i d below)

@@ -1,8 +1,10 @@
 pub mod Lists
-pub mod InPlace
 pub mod Arrived
 pub mod Spans
 pub mod Moves
+pub mod Passes
+pub mod Placed
+pub mod ToldRows
 pub mod Sound
 pub mod Exchanged
 pub mod Edges

@@ -1,19 +1,19 @@
 -- Lists of rows, and the spans that they stand for.
-use Rattle.std.proofs.Common.{◌≡◌, ℕ, ◌||◌, ◌&&◌, Bool, true, false, not, cond, List, [], ◌∷◌, map, refl, ap, ◌∙◌}
-use Rattle.std.specs.List.{filter, list_any}
+use Rattle.std.proofs.Common.{◌≡◌, ℕ, ◌||◌, ◌&&◌, Bool, true, false, not, cond, List, [], ◌∷◌}
+use Rattle.std.proofs.Common.{map, refl, ap, ◌∙◌, ◌+◌, suc, ltb, length, Option, Some, None, arith, is_some}
+use Rattle.std.specs.List.{filter, list_any, position_or_len}
+use Rattle.std.proofs.lemmas.Bool.Decides.{nat_tests}
 use Rattle.std.proofs.lemmas.List.{length-map}
 use Rattle.edit_base.specs.declared.rows.SpanRow.{SpanRow}
 use Rattle.edit_model.specs.Attached.{has_id, is_attached}
-use Rattle.edit_model.specs.Changed.{span_of}
+use Rattle.edit_model.specs.Rows.{span_of}
 use Rattle.edit_model.specs.Verdicts.{watches}
-use Rattle.replace_engine.specs.Rows.{spans_in}
-
-pub list_any-map : {X Y : Type 0} (f : X → Y) (test : Y → Bool) (xs : List X) → list_any test (map f xs) ≡ list_any (λ x. test (f x)) xs
-list_any-map f test [] = refl
-list_any-map f test (x ∷ xs) = ap (λ rest. test (f x) || rest) (list_any-map f test xs)
+use Rattle.edit_model.proofs.Tests.{list_any-map}
+use Rattle.edit_model.specs.Rows.{spans_in}
 
 module _ {X : Type 0} (test keep : X → Bool) where
-  any_where : (kept : Bool) (x : X) (others : List X) (rest : Bool) → list_any test others ≡ rest → list_any test (cond kept (x ∷ others) others) ≡ ((test x && kept) || rest)
+  any_where : (kept : Bool) (x : X) (others : List X) (rest : Bool) → list_any test others ≡ rest
+      → list_any test (cond kept (x ∷ others) others) ≡ ((test x && kept) || rest)
   any_where true x others rest is = both (test x) is
     where
       both : (first : Bool) → list_any test others ≡ rest → (first || list_any test others) ≡ ((first && true) || rest)
@@ -35,9 +35,31 @@ filter-map f test [] = refl
 filter-map f test (x ∷ xs) = ap (λ rest. cond (test (f x)) (f x ∷ rest) rest) (filter-map f test xs)
     ∙ filter_back f test x xs
   where
-    filter_back : {X Y : Type 0} (f : X → Y) (test : Y → Bool) (x : X) (xs : List X) → cond (test (f x)) (f x ∷ map f (filter (λ y. test (f y)) xs)) (map f (filter (λ y. test (f y)) xs))
+    filter_back : {X Y : Type 0} (f : X → Y) (test : Y → Bool) (x : X) (xs : List X)
+        → cond (test (f x)) (f x ∷ map f (filter (λ y. test (f y)) xs)) (map f (filter (λ y. test (f y)) xs))
         ≡ map f (cond (test (f x)) (x ∷ filter (λ y. test (f y)) xs) (filter (λ y. test (f y)) xs))
-    filter_back f test x xs = elim (test (f x)) as (λ b. cond b (f x ∷ map f (filter (λ y. test (f y)) xs)) (map f (filter (λ y. test (f y)) xs)) ≡ map f (cond b (x ∷ filter (λ y. test (f y)) xs) (filter (λ y. test (f y)) xs))) [ true ↦ refl | false ↦ refl ]
+    filter_back {X = X} f test x xs =
+        let kept : List X = filter (λ y. test (f y)) xs in
+        elim (test (f x)) as (λ b. cond b (f x ∷ map f kept) (map f kept) ≡ map f (cond b (x ∷ kept) kept)) [ true ↦ refl | false ↦ refl ]
+
+-- a first element that passes has a place exactly where some element passes
+module _ {X : Type 0} (test : X → Bool) where
+  first_step : (passes : Bool) (place count : ℕ) (rest : Bool) → ltb place count ≡ rest → ltb (cond (not passes) (1 + place) 0) (suc count) ≡ (passes || rest)
+  first_step true place count rest is = grind (arith, nat_tests)
+  first_step false place count true is = grind (arith, nat_tests)
+  first_step false place count false is = grind (arith, nat_tests)
+
+  first_within : (xs : List X) → ltb (position_or_len test xs) (length xs) ≡ list_any test xs
+  first_within [] = refl
+  first_within (x ∷ xs) = first_step (test x) (position_or_len test xs) (length xs) (list_any test xs) (first_within xs)
+
+  is_place : (within : Bool) (place : ℕ) → is_some (cond within (Some place) None) ≡ within
+  is_place true place = refl
+  is_place false place = refl
+
+  pub first_any : (found : Option ℕ) (xs : List X) → found ≡ cond (ltb (position_or_len test xs) (length xs)) (Some (position_or_len test xs)) None
+      → is_some found ≡ list_any test xs
+  first_any found xs is = ap is_some is ∙ is_place (ltb (position_or_len test xs) (length xs)) (position_or_len test xs) ∙ first_within xs
 
 pub attached-rows : (id : ℕ) (rows : List SpanRow) → is_attached id (spans_in rows) ≡ list_any (λ row. has_id id (span_of row)) rows
 attached-rows id rows = list_any-map span_of (has_id id) rows

@@ -9,9 +9,9 @@ use Rattle.std.proofs.lemmas.List.Elements.{filter_agree, recursion_from_All}
 use Rattle.edit_base.specs.declared.rows.SpanRow.{SpanRow}
 use Rattle.edit_model.specs.State.{Span}
 use Rattle.edit_model.specs.Flags.{priority_of}
-use Rattle.edit_model.specs.Changed.{span_of}
+use Rattle.edit_model.specs.Rows.{span_of}
 use Rattle.edit_model.specs.Over.{into, by_priority}
-use Rattle.replace_engine.specs.Rows.{spans_in}
+use Rattle.edit_model.specs.Rows.{spans_in}
 use Rattle.replace_engine.proofs.Lists.{filter-map}
 
 -- spans of a lower rank come first
@@ -47,7 +47,8 @@ module _ (one : Span) where
   unfolding tied
   own_first spans = keeps (tied one) one spans (eq-eqb (rank one) (rank one) refl)
 
-farther : (low : ℕ) (first : Span) (spans : List Span) → low < rank first → AllByRecursion (λ span. rank first ≤ rank span) spans → AllByRecursion (λ span. low < rank span) spans
+farther : (low : ℕ) (first : Span) (spans : List Span) → low < rank first → AllByRecursion (λ span. rank first ≤ rank span) spans
+    → AllByRecursion (λ span. low < rank span) spans
 farther low first [] below each = tt
 farther low first (span ∷ spans) below each = (omega (arith, each.0), farther low first spans below each.1)
 
@@ -74,7 +75,8 @@ module _ (y z : Span) (ys zs : List Span) (same : (one : Span) → filter (tied 
         let k = keeps (tied one) y ys (eq-eqb (rank y) (rank one) is) in
         let l = keeps (tied one) z zs (eq-eqb (rank z) (rank one) (sym equal ∙ is)) in
         (cons_parts y z _ _ (sym k ∙ same one ∙ l)).1
-    | inr other ↦ sym (drops (tied one) y ys (ne_eqb (rank y) (rank one) other)) ∙ same one ∙ drops (tied one) z zs (ne_eqb (rank z) (rank one) (λ is. other (equal ∙ is)))
+    | inr other ↦ sym (drops (tied one) y ys (ne_eqb (rank y) (rank one) other)) ∙ same one
+        ∙ drops (tied one) z zs (ne_eqb (rank z) (rank one) (λ is. other (equal ∙ is)))
   ]
 
 one_order : (ys zs : List Span) → Ranked ys → Ranked zs → ((one : Span) → filter (tied one) ys ≡ filter (tied one) zs) → ys ≡ zs
@@ -109,11 +111,13 @@ all_into P span [] here each = (here, tt)
 all_into P span (other ∷ others) here each =
     all_step P (leb (priority_of other.flags) (priority_of span.flags)) span other others (into span others) here each (all_into P span others here each.1)
 
-behind : (low high : Span) (spans : List Span) → rank low ≤ rank high → AllByRecursion (λ span. rank high ≤ rank span) spans → AllByRecursion (λ span. rank low ≤ rank span) spans
+behind : (low high : Span) (spans : List Span) → rank low ≤ rank high → AllByRecursion (λ span. rank high ≤ rank span) spans
+    → AllByRecursion (λ span. rank low ≤ rank span) spans
 behind low high [] below each = tt
 behind low high (span ∷ spans) below each = (omega (arith, each.0), behind low high spans below each.1)
 
-ranked_step : (test : Bool) (span other : Span) (others rest : List Span) → leb (priority_of other.flags) (priority_of span.flags) ≡ test → Ranked (other ∷ others)
+ranked_step : (test : Bool) (span other : Span) (others rest : List Span) → leb (priority_of other.flags) (priority_of span.flags) ≡ test
+    → Ranked (other ∷ others)
     → (rank other ≤ rank span → AllByRecursion (λ one. rank other ≤ rank one) rest) → Ranked rest → Ranked (cond test (span ∷ other ∷ others) (other ∷ rest))
 unfolding rank rank_of_flags Ranked
 ranked_step true span other others rest is ranked first more =
@@ -137,13 +141,15 @@ ranked_by_priority (span ∷ spans) = ranked_into span (by_priority spans) (rank
 
 module _ (one : Span) where
   passed_by : (first second : Bool) (span other : Span) (spans : List Span) → (first ≡ true → second ≡ true → ⊥)
-      → cond second (other ∷ cond first (span ∷ spans) spans) (cond first (span ∷ spans) spans) ≡ cond first (span ∷ cond second (other ∷ spans) spans) (cond second (other ∷ spans) spans)
+      → cond second (other ∷ cond first (span ∷ spans) spans) (cond first (span ∷ spans) spans)
+      ≡ cond first (span ∷ cond second (other ∷ spans) spans) (cond second (other ∷ spans) spans)
   passed_by true true span other spans apart = absurd (apart refl refl)
   passed_by true false span other spans apart = refl
   passed_by false second span other spans apart = refl
 
   stable_step : (test : Bool) (span other : Span) (others rest : List Span) → leb (priority_of other.flags) (priority_of span.flags) ≡ test
-      → filter (tied one) rest ≡ filter (tied one) (span ∷ others) → filter (tied one) (cond test (span ∷ other ∷ others) (other ∷ rest)) ≡ filter (tied one) (span ∷ other ∷ others)
+      → filter (tied one) rest ≡ filter (tied one) (span ∷ others)
+      → filter (tied one) (cond test (span ∷ other ∷ others) (other ∷ rest)) ≡ filter (tied one) (span ∷ other ∷ others)
   unfolding rank rank_of_flags tied
   stable_step true span other others rest is same = refl
   stable_step false span other others rest is same =
@@ -187,14 +193,16 @@ ties_tied a b = grind (arith, nat_tests)
 row_of : Span → SpanRow
 row_of span = record { id = span.id; start = span.start; end = span.end; flags = span.flags; order = 0; what = span.what }
 
-tied_rows : (one : Span) (rows : List SpanRow) → filter (tied one) (spans_in rows) ≡ spans_in (filter (ties (λ x y. is_lt (nat_cmp (row_rank x) (row_rank y))) (row_of one)) rows)
+tied_rows : (one : Span) (rows : List SpanRow)
+    → filter (tied one) (spans_in rows) ≡ spans_in (filter (ties (λ x y. is_lt (nat_cmp (row_rank x) (row_rank y))) (row_of one)) rows)
 unfolding tied rank row_of
 tied_rows one rows =
     filter-map span_of (tied one) rows
     ∙ ap spans_in (sym (filter_agree (ties (λ x y. is_lt (nat_cmp (row_rank x) (row_rank y))) (row_of one)) (λ row. tied one (span_of row))
     (λ row. ties_tied (row_rank (row_of one)) (row_rank row)) rows))
 
-pub sorted_rows : (rows sorted : List SpanRow) → IsNonDecreasingBy row_rank sorted → IsStableByKey row_rank nat_cmp rows sorted → spans_in sorted ≡ by_priority (spans_in rows)
+pub sorted_rows : (rows sorted : List SpanRow) → IsNonDecreasingBy row_rank sorted → IsStableByKey row_rank nat_cmp rows sorted
+    → spans_in sorted ≡ by_priority (spans_in rows)
 sorted_rows rows sorted up stable =
     one_order (spans_in sorted) (by_priority (spans_in rows)) (ranked_rows sorted up) (ranked_by_priority (spans_in rows))
     (λ one. tied_rows one sorted ∙ ap spans_in (stable (row_of one)) ∙ sym (tied_rows one rows) ∙ sym (stable_by_priority one (spans_in rows)))

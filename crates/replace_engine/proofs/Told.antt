@@ -8,7 +8,8 @@ use Rattle.edit_model.specs.Changed.{Effect, change_of, stepped, state_after, ef
 use Rattle.edit_model.specs.Leads.{LeadsTo}
 use Rattle.replace_engine.proofs.Done.{on_done-at_done}
 
-pub leads_done : (old new : State) (last effect : Effect) (slots : ℕ) (asked : Step) → judged old slots asked ≡ Done → new ≡ state_after old slots asked → effect ≡ effect_after old slots asked last
+pub leads_done : (old new : State) (last effect : Effect) (slots : ℕ) (asked : Step) → judged old slots asked ≡ Done → new ≡ state_after old slots asked
+    → effect ≡ effect_after old slots asked last
     → LeadsTo effect old new
 leads_done old new last effect slots asked is_done state_is effect_is = inl (record {
   slots = slots;
@@ -19,6 +20,7 @@ leads_done old new last effect slots asked is_done state_is effect_is = inl (rec
 })
 
 -- a follower of every state follows the state before
-pub told_done : (old new : State) (last effect : Effect) (slots : ℕ) (asked : Step) → judged old slots asked ≡ Done → new ≡ state_after old slots asked → effect ≡ effect_after old slots asked last
+pub told_done : (old new : State) (last effect : Effect) (slots : ℕ) (asked : Step) → judged old slots asked ≡ Done → new ≡ state_after old slots asked
+    → effect ≡ effect_after old slots asked last
     → (state : State) × Unit {0} × LeadsTo effect state new
 told_done old new last effect slots asked is_done state_is effect_is = (old, tt, leads_done old new last effect slots asked is_done state_is effect_is)

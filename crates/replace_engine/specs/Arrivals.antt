@@ -5,12 +5,13 @@ use Rattle.edit_base.specs.declared.rows.SpanRow.{SpanRow}
 use Rattle.edit_model.specs.State.{Span}
 use Rattle.edit_model.specs.Replaced.{spliced, stayed_spans}
 use Rattle.edit_model.specs.Brought.{placed_span, newcomers}
-use Rattle.replace_engine.specs.declared.cut.Cut.{Cut}
-use Rattle.replace_engine.specs.Rows.{state_of}
+use Rattle.text_cut.specs.declared.cut.Cut.{Cut}
+use Rattle.text_cut.specs.Halves.{joined}
+use Rattle.edit_model.specs.Rows.{state_of}
 
 -- the text that stands then
 abbrev pub text_then : Cut → List ℕ
-text_then cut = spliced cut.units.now cut.start cut.end cut.brought.now
+text_then cut = spliced (joined cut.text) cut.start cut.end cut.brought.now
 
 -- an incoming span in that text
 abbrev pub placed : Cut → NewSpan → Span
@@ -22,7 +23,7 @@ arrivals cut attached spans = newcomers (text_then cut) attached (map (placed cu
 
 -- the rows' spans that aren't emptied, where they go
 abbrev pub stayed : Cut → List SpanRow → List Span
-stayed cut rows = stayed_spans (state_of cut.units.now rows) cut.start cut.end cut.grown
+stayed cut rows = stayed_spans (state_of (joined cut.text) rows) cut.start cut.end cut.grown
 
 -- both places lie among the units that come
 pub record IsAmong (cut : Cut) (row : SpanRow) : Type 0 where

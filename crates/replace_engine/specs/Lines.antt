@@ -8,10 +8,10 @@ use Rattle.edit_base.specs.declared.verdicts.Verdict.{Verdict}
 use Rattle.edit_base.specs.declared.verdicts.Verdict.TheVariants.{NoChange, Ignored, Refused}
 use Rattle.edit_base.specs.declared.verdicts.Refusal.TheVariants.{Order, Beyond, Below, ParagraphStart, ParagraphEnd, TooLong, SpansFull}
 use Rattle.edit_model.specs.State.{State}
-use Rattle.edit_model.specs.Verdicts.{goes_beyond, goes_below, breaks_paragraph, is_ignored, changes_nothing, length_after, spans_after, spans_then}
+use Rattle.edit_model.specs.Verdicts.{goes_beyond, goes_below, breaks_paragraph, is_ignored, changes_nothing, length_after, span_count_after_set, span_count_then}
 use Rattle.edit_model.specs.declared.steps.Step.{Step}
 use Rattle.edit_model.specs.declared.steps.Step.TheVariants as step
-use Rattle.replace_engine.specs.declared.cut.Cut.{Cut}
+use Rattle.text_cut.specs.declared.cut.Cut.{Cut}
 use Rattle.replace_engine.specs.declared.judging.AskedSpan.{AskedSpan}
 use Rattle.replace_engine.specs.Arrivals.{arrivals, stayed}
 
@@ -25,7 +25,7 @@ kind_lines state asked =
     (breaks_paragraph state asked.flags asked.start, Refused ParagraphStart)
     ∷ (breaks_paragraph state asked.flags asked.end, Refused ParagraphEnd)
     ∷ (is_ignored asked.flags asked.start asked.end, Ignored)
-    ∷ (nat_lt SPANS (spans_after state asked.id), Refused SpansFull)
+    ∷ (nat_lt SPANS (span_count_after_set state asked.id), Refused SpansFull)
     ∷ []
 
 -- behind the tests of its id, what and flags
@@ -50,12 +50,12 @@ abbrev pub exchange_lines : State → ℤ → ℤ → Incoming → List (Bool ×
 exchange_lines state start end incoming =
     (changes_nothing state start end incoming, NoChange)
     ∷ (nat_lt TEXT (length_after state start end incoming), Refused TooLong)
-    ∷ (nat_lt SPANS (spans_then state start end incoming), Refused SpansFull)
+    ∷ (nat_lt SPANS (span_count_then state start end incoming), Refused SpansFull)
     ∷ []
 
 -- behind the tests of what comes
-abbrev pub range_lines : State → ℤ → ℤ → Incoming → List (Bool × Verdict)
-range_lines state start end incoming =
+abbrev pub replacement_lines : State → ℤ → ℤ → Incoming → List (Bool × Verdict)
+replacement_lines state start end incoming =
     (int_lt end start, Refused Order)
     ∷ (goes_beyond state start end, Refused Beyond)
     ∷ (goes_below start end, Refused Below)

@@ -1,32 +1,76 @@
 //! The spans that a replacement brings: which of them are attached, and where.
 
-ghost use Rattle.std.specs.Prelude.{◌≡◌, ◌≤◌, ◌<◌, ◌+◌, ◌++◌, ◌&&◌, [], ◌∷◌, true, false, not, map, length, vec_len, vec_capacity};
+ghost use Rattle.std.specs.Prelude.{◌≡◌, ◌≤◌, ◌<◌, ◌+◌, ◌^◌, ◌++◌, ◌&&◌, [], ◌∷◌, true, false, not, map, length, vec_len, vec_capacity, option_to_list, if◌then◌else◌};
 ghost use Rattle.std.specs.List.{list_any};
 ghost use Rattle.edit_model.specs.Attached.{has_id, is_attached};
 ghost use Rattle.edit_model.specs.Brought.{has_place, is_skipped};
-ghost use Rattle.edit_model.specs.Changed.{span_of};
+ghost use Rattle.edit_model.specs.Rows.{span_of};
+ghost use Rattle.text_cut.specs.Coming.{all_coming};
 ghost use Rattle.replace_engine.specs.Arrivals.{IsAmong, arrivals, placed, stayed, text_then};
-ghost use Rattle.replace_engine.specs.Rows.{spans_in};
+ghost use Rattle.edit_model.specs.Rows.{spans_in};
 
-use crate::cut::Cut;
 use crate::judging::is_attached;
 use crate::moving::is_emptied;
 use crate::room::push_within;
-use edit_base::{NewSpan, SpanRow};
+use edit_base::{Incoming, Limits, NewSpan, SpanRow};
 use span_flags::{Kind, kind_of_word};
+use text_cut::{Coming, Cut};
 
-/// The incoming spans that are attached come behind the rows, one by one, and are told of.
-pub fn attach_spans(spans: &[NewSpan], cut: &Cut, rows: &mut Vec<SpanRow>, added: &mut Vec<SpanRow>)
+/// The spans that come and are attached stand behind the rows, one by one, and are told of.
+#[tactic(auto, using(crate::proofs::Arrived::one_by_one))]
+pub fn attach_coming(coming: &Coming, cut: &Cut, rows: &mut Vec<SpanRow>, added: &mut Vec<SpanRow>)
     requires none { added.old.items ≡ [] }
-    requires room { vec_len rows.old + length (arrivals cut.now (spans_in rows.old.items) spans.now) ≤ vec_capacity rows.old }
+    requires room { vec_len rows.old + length (arrivals cut.now (spans_in rows.old.items) (all_coming coming.now))
+        ≤ vec_capacity rows.old }
+    requires told { length (arrivals cut.now (spans_in rows.old.items) (all_coming coming.now))
+        ≤ vec_capacity added.old }
+    ensures rows { spans_in rows.new.items
+        ≡ spans_in rows.old.items ++ arrivals cut.now (spans_in rows.old.items) (all_coming coming.now) }
+    ensures added { spans_in added.new.items ≡ arrivals cut.now (spans_in rows.old.items) (all_coming coming.now) }
+    ensures capacity { vec_capacity rows.old ≤ vec_capacity rows.new }
+    ensures kept { vec_capacity added.old ≤ vec_capacity added.new }
+{
+    attach_spans(coming.spans, cut, rows, added);
+    attach_region(coming.region, cut, rows, added);
+}
+
+// Those of the given spans.
+fn attach_spans(spans: &[NewSpan], cut: &Cut, rows: &mut Vec<SpanRow>, added: &mut Vec<SpanRow>)
+    requires none { added.old.items ≡ [] }
+    requires room { vec_len rows.old + length (arrivals cut.now (spans_in rows.old.items) spans.now)
+        ≤ vec_capacity rows.old }
     requires told { length (arrivals cut.now (spans_in rows.old.items) spans.now) ≤ vec_capacity added.old }
-    ensures rows { spans_in rows.new.items ≡ spans_in rows.old.items ++ arrivals cut.now (spans_in rows.old.items) spans.now }
+    ensures rows { spans_in rows.new.items
+        ≡ spans_in rows.old.items ++ arrivals cut.now (spans_in rows.old.items) spans.now }
     ensures added { spans_in added.new.items ≡ arrivals cut.now (spans_in rows.old.items) spans.now }
     ensures capacity { vec_capacity rows.old ≤ vec_capacity rows.new }
     ensures kept { vec_capacity added.old ≤ vec_capacity added.new }
 {
     for span in spans {
         attach_span(span, cut, rows, added);
+    }
+}
+
+// That of the composing region, where it comes.
+fn attach_region(
+    region: Option<NewSpan>,
+    cut: &Cut,
+    rows: &mut Vec<SpanRow>,
+    added: &mut Vec<SpanRow>,
+)
+    requires room { vec_len rows.old + length (arrivals cut.now (spans_in rows.old.items) (option_to_list region))
+        ≤ vec_capacity rows.old }
+    requires told { vec_len added.old + length (arrivals cut.now (spans_in rows.old.items) (option_to_list region))
+        ≤ vec_capacity added.old }
+    ensures rows { spans_in rows.new.items
+        ≡ spans_in rows.old.items ++ arrivals cut.now (spans_in rows.old.items) (option_to_list region) }
+    ensures added { spans_in added.new.items
+        ≡ spans_in added.old.items ++ arrivals cut.now (spans_in rows.old.items) (option_to_list region) }
+    ensures capacity { vec_capacity rows.old ≤ vec_capacity rows.new }
+    ensures kept { vec_capacity added.old ≤ vec_capacity added.new }
+{
+    if let Some(span) = region {
+        attach_span(&span, cut, rows, added);
     }
 }
 
@@ -89,14 +133,42 @@ fn has_place(row: &SpanRow, cut: &Cut) -> bool
 
 // ---- counted before anything changes
 
-/// How many spans stand after a replacement: those that aren't emptied, and the incoming ones that are attached.
-pub fn count_spans_then(spans: &[NewSpan], cut: &Cut, rows: &[SpanRow]) -> usize
-    requires few { length rows.now ≤ 4096 }
-    requires spans { length spans.now ≤ 1073741824 }
-    ensures count { result ≡ length (stayed cut.now rows.now ++ arrivals cut.now (stayed cut.now rows.now) spans.now) }
-    ensures few { result ≤ 4096 + length spans.now }
+/// How many spans stand after a replacement: those that aren't emptied, and those that come and are attached.
+pub fn count_spans_then(coming: &Coming, cut: &Cut, rows: &[SpanRow]) -> usize
+    requires few { length rows.now ≤ Limits.SPANS }
+    requires spans { length coming.now.spans.now ≤ Incoming.MOST }
+    ensures count { result
+        ≡ length (stayed cut.now rows.now ++ arrivals cut.now (stayed cut.now rows.now) (all_coming coming.now)) }
+    ensures few { result ≤ Limits.SPANS + Incoming.MOST + 1 }
 {
-    count_kept(rows, cut) + count_arrivals(spans, cut, rows)
+    count_kept(rows, cut) + count_coming(coming, cut, rows)
+}
+
+/// How many of the spans that come are attached.
+#[tactic(auto, using(crate::proofs::Arrived::one_by_one))]
+pub fn count_coming(coming: &Coming, cut: &Cut, rows: &[SpanRow]) -> usize
+    requires { length coming.now.spans.now < 2 ^ 63 }
+    ensures count { result ≡ length (arrivals cut.now (stayed cut.now rows.now) (all_coming coming.now)) }
+    ensures few { result ≤ length coming.now.spans.now + 1 }
+{
+    let count = count_arrivals(coming.spans, cut, rows);
+    if region_arrives(coming, cut, rows) {
+        count + 1
+    } else {
+        count
+    }
+}
+
+// Whether the composing region comes and is attached.
+fn region_arrives(coming: &Coming, cut: &Cut, rows: &[SpanRow]) -> bool
+    ensures { length (arrivals cut.now
+        (stayed cut.now rows.now ++ arrivals cut.now (stayed cut.now rows.now) coming.now.spans.now)
+        (option_to_list coming.now.region)) ≡ (if result then 1 else 0) }
+{
+    match &coming.region {
+        Some(region) => arrives(region, coming.spans, cut, rows),
+        None => false,
+    }
 }
 
 /// How many rows aren't emptied.
@@ -113,8 +185,8 @@ pub fn count_kept(rows: &[SpanRow], cut: &Cut) -> usize
     count
 }
 
-/// How many of the incoming spans are attached.
-pub fn count_arrivals(spans: &[NewSpan], cut: &Cut, rows: &[SpanRow]) -> usize
+// How many of the given spans are attached.
+fn count_arrivals(spans: &[NewSpan], cut: &Cut, rows: &[SpanRow]) -> usize
     ensures count { result ≡ length (arrivals cut.now (stayed cut.now rows.now) spans.now) }
     ensures few { result ≤ length spans.now }
 {
@@ -138,7 +210,8 @@ fn arrives(span: &NewSpan, before: &[NewSpan], cut: &Cut, rows: &[SpanRow]) -> b
 /// Whether a span with this id is attached behind the rows and some of the incoming spans.
 #[tactic(auto, using(crate::proofs::Arrived::arrived))]
 fn is_taken(id: u32, before: &[NewSpan], cut: &Cut, rows: &[SpanRow]) -> bool
-    ensures { result ≡ is_attached id (stayed cut.now rows.now ++ arrivals cut.now (stayed cut.now rows.now) before.now) }
+    ensures { result ≡ is_attached id
+        (stayed cut.now rows.now ++ arrivals cut.now (stayed cut.now rows.now) before.now) }
 {
     stays(rows, cut, id) || is_brought(before, cut, id)
 }

@@ -2,13 +2,13 @@
 
 ghost use Rattle.std.specs.Prelude.{◌≡◌, IsOk, OnOk};
 ghost use Rattle.edit_model.specs.State.{State};
-ghost use Rattle.edit_model.specs.Changed.{effect_of};
-ghost use Rattle.edit_model.specs.Faces.{Metrics, no_metrics};
+ghost use Rattle.replace_engine.specs.Changes.{effect_of};
+ghost use Rattle.edit_model.specs.Faces.{Ground, no_ground};
 ghost use Rattle.edit_model.specs.Leads.{LeadsTo};
 
+use crate::changes::Change;
 use crate::text::SpannedText;
 use edit_base::{NoMemory, Steps};
-use edit_model::Change;
 use std::sync::ledger::Ledger;
 
 /// Follows the states of a text.
@@ -17,7 +17,7 @@ pub trait Follower {
     ghost follows: { Self → State → Type 0 };
 
     /// The faces and the width that it was made with, which no call changes.
-    ghost metrics: { Self → Metrics };
+    ghost layout_ground: { Self → Ground };
 
     /// Tells it of a change that leads from a state that it follows to that of `text`, which it follows from then on.
     fn told<L: Ledger>(
@@ -29,7 +29,7 @@ pub trait Follower {
         requires followed { (old : State) × follows self.old old × LeadsTo (effect_of change.now) old text.now.state }
         requires last { effect_of change.now ≡ text.now.effect }
         ensures follows { OnOk result (follows self.new text.now.state) }
-        ensures metrics { metrics self.new ≡ metrics self.old };
+        ensures layout_ground { layout_ground self.new ≡ layout_ground self.old };
 }
 
 /// A follower that is told and keeps nothing, and so follows every state.
@@ -39,7 +39,7 @@ pub struct Unfollowed;
 impl Follower for Unfollowed {
     ghost follows = { λ _ _. Unit {0} };
 
-    ghost metrics = { λ _. no_metrics };
+    ghost layout_ground = { λ _. no_ground };
 
     fn told<L: Ledger>(
         &mut self,

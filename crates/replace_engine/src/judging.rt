@@ -1,6 +1,6 @@
 //! The verdicts of edits: each the first line of a table that applies.
 
-ghost use Rattle.std.specs.Prelude.{ℕ, List, pos, ◌≤ℤ◌, ◌≡◌, ◌≤◌, ◌+◌, nat_lt, ◌<◌, ◌&&◌, not, [], length};
+ghost use Rattle.std.specs.Prelude.{ℕ, List, pos, ◌≤ℤ◌, ◌≡◌, ◌≤◌, ◌+◌, ◌^◌, nat_lt, ◌<◌, ◌&&◌, not, [], length};
 ghost use Rattle.std.specs.List.{list_any};
 ghost use Rattle.edit_base.specs.declared.verdicts.Verdict.TheVariants.{Done};
 ghost use Rattle.edit_model.specs.declared.steps.Step.TheVariants.{Replace, Set, Remove};
@@ -9,21 +9,22 @@ ghost use Rattle.edit_model.specs.Attached.{has_id, is_attached};
 ghost use Rattle.edit_model.specs.Boundaries.{is_boundary};
 ghost use Rattle.edit_model.specs.Flags.{is_bad, kind_of, is_paragraph, is_point_mark};
 ghost use Rattle.edit_model.specs.Replaced.{spliced_length};
-ghost use Rattle.edit_model.specs.Verdicts.{first_of, is_reserved, judged, lacks_slot, spans_after, watches};
+ghost use Rattle.edit_model.specs.Verdicts.{first_of, is_reserved, judged, lacks_slot, span_count_after_set, watches};
 ghost use Rattle.edit_model.specs.Over.{is_watch};
 ghost use Rattle.edit_model.specs.WellFormed.{is_kept_what};
-ghost use Rattle.replace_engine.specs.Rows.{spans_in, state_of};
+ghost use Rattle.edit_model.specs.Rows.{spans_in, state_of};
 ghost use Rattle.edit_base.specs.declared.bounds.TheConstants.Limits.{SPANS};
+ghost use Rattle.text_cut.specs.Halves.{joined};
+ghost use Rattle.text_cut.specs.Coming.{all_coming};
 ghost use Rattle.replace_engine.specs.Arrivals.{stayed};
-ghost use Rattle.replace_engine.specs.Lines.{kind_lines, place_lines, range_lines, exchange_lines, span_lines};
+ghost use Rattle.replace_engine.specs.Lines.{kind_lines, place_lines, replacement_lines, exchange_lines, span_lines};
 
-use crate::arriving::{count_arrivals, count_kept};
-use crate::boundaries::is_boundary;
-use crate::cut::Cut;
+use crate::arriving::{count_coming, count_kept};
+use crate::ids::place_of_id;
 use crate::places::place_of;
-use crate::queries::is_watch;
 use edit_base::{Incoming, Limits, NewSpan, Refusal, SpanRow, Verdict, What};
-use span_flags::{Kind, flags_of, kind_of_word};
+use span_flags::{flags_of, is_paragraph, is_point_mark, is_watch, kind_of_word};
+use text_cut::{Coming, Cut, Halves, coming_with, is_boundary};
 
 /// A span as it is asked for, its places not looked at yet.
 #[derive(Clone, Copy)]
@@ -38,15 +39,15 @@ pub struct AskedSpan {
 /// The verdict of a replacement of the units from `start` to `end`.
 #[tactic(auto, unfolding(edit_model::specs::Verdicts::judged))]
 pub fn judge_replace(
-    units: &[u16],
+    text: &Halves,
     rows: &[SpanRow],
     start: i32,
     end: i32,
     incoming: &Incoming,
 ) -> Verdict
-    requires text { length units.now ≤ 1048576 }
-    requires spans { length rows.now ≤ 4096 }
-    ensures verdict { (slots : ℕ) → result ≡ judged (state_of units.now rows.now) slots (Replace start end incoming.now) }
+    requires spans { length rows.now ≤ Limits.SPANS }
+    ensures verdict { (slots : ℕ)
+        → result ≡ judged (state_of (joined text.now) rows.now) slots (Replace start end incoming.now) }
 {
     let spans = incoming.spans.as_slice();
     if brings_reserved(spans) {
@@ -55,7 +56,7 @@ pub fn judge_replace(
     if brings_bad_flags(spans) {
         return Verdict::Refused(Refusal::Flags);
     }
-    judge_range(units, rows, start, end, incoming)
+    judge_bounds(text, rows, start, end, incoming)
 }
 
 /// Whether an incoming span is none that a replacement may bring.
@@ -78,18 +79,17 @@ fn brings_bad_flags(spans: &[NewSpan]) -> bool
 }
 
 /// The verdict of a replacement whose spans may come.
-fn judge_range(
-    units: &[u16],
+fn judge_bounds(
+    text: &Halves,
     rows: &[SpanRow],
     start: i32,
     end: i32,
     incoming: &Incoming,
 ) -> Verdict
-    requires text { length units.now ≤ 1048576 }
-    requires spans { length rows.now ≤ 4096 }
-    ensures { result ≡ first_of (range_lines (state_of units.now rows.now) start end incoming.now) }
+    requires spans { length rows.now ≤ Limits.SPANS }
+    ensures { result ≡ first_of (replacement_lines (state_of (joined text.now) rows.now) start end incoming.now) }
 {
-    let len = units.len() as i64;
+    let len = i64::from(text.len());
     if end < start {
         return Verdict::Refused(Refusal::Order);
     }
@@ -99,44 +99,38 @@ fn judge_range(
     if start < 0 || end < 0 {
         return Verdict::Refused(Refusal::Below);
     }
-    judge_exchange(units, rows, place_of(start), place_of(end), incoming)
+    judge_exchange(text, rows, place_of(start), place_of(end), incoming)
 }
 
 /// The verdict of a replacement whose places lie in the text too.
 fn judge_exchange(
-    units: &[u16],
+    text: &Halves,
     rows: &[SpanRow],
     start: u32,
     end: u32,
     incoming: &Incoming,
 ) -> Verdict
-    requires text { length units.now ≤ 1048576 }
-    requires spans { length rows.now ≤ 4096 }
+    requires spans { length rows.now ≤ Limits.SPANS }
     requires order { start ≤ end }
-    requires within { end ≤ length units.now }
-    ensures { result ≡ first_of (exchange_lines (state_of units.now rows.now) (pos start) (pos end) incoming.now) }
+    requires within { end ≤ length (joined text.now) }
+    ensures { result ≡ first_of
+        (exchange_lines (state_of (joined text.now) rows.now) (pos start) (pos end) incoming.now) }
 {
-    let kept = units.len() - (end - start) as usize;
-    if incoming.units.len() > Limits::TEXT as usize - kept {
+    let kept = text.len() - (end - start);
+    if incoming.units.len() > (Limits::TEXT - kept) as usize {
         return Verdict::Refused(Refusal::TooLong);
     }
-    let cut = Cut {
-        units,
-        brought: incoming.units.as_slice(),
-        start,
-        end,
-        grown: incoming.units.len() as u32,
-        boundary: units.len() as u32,
-    };
-    judge_spans(rows, &cut, incoming.spans.as_slice())
+    let cut = Cut::new(text, start, end, incoming.units.as_slice(), None);
+    judge_spans(rows, &cut, &coming_with(incoming))
 }
 
 /// The verdict of a replacement whose text isn't too long.
-fn judge_spans(rows: &[SpanRow], cut: &Cut, spans: &[NewSpan]) -> Verdict
-    requires { length rows.now ≤ 4096 }
-    ensures { result ≡ first_of (span_lines cut.now rows.now spans.now) }
+fn judge_spans(rows: &[SpanRow], cut: &Cut, coming: &Coming) -> Verdict
+    requires few { length rows.now ≤ Limits.SPANS }
+    requires spans { length coming.now.spans.now < 2 ^ 63 }
+    ensures { result ≡ first_of (span_lines cut.now rows.now (all_coming coming.now)) }
 {
-    let arrivals = count_arrivals(spans, cut, rows);
+    let arrivals = count_coming(coming, cut, rows);
     if cut.start == cut.end && cut.grown == 0 && arrivals == 0 {
         return Verdict::NoChange;
     }
@@ -149,7 +143,7 @@ fn judge_spans(rows: &[SpanRow], cut: &Cut, spans: &[NewSpan]) -> Verdict
 /// Whether too many spans would stand with so many that arrive. Where none does, nothing is counted.
 #[tactic(auto, using(crate::proofs::Arrived::arrived))]
 fn is_full(rows: &[SpanRow], cut: &Cut, arrivals: usize) -> bool
-    requires { length rows.now ≤ 4096 }
+    requires { length rows.now ≤ Limits.SPANS }
     ensures { result ≡ nat_lt SPANS (length (stayed cut.now rows.now) + arrivals) }
 {
     arrivals > 0 && arrivals > Limits::SPANS as usize - count_kept(rows, cut)
@@ -157,10 +151,9 @@ fn is_full(rows: &[SpanRow], cut: &Cut, arrivals: usize) -> bool
 
 /// The verdict of a set, with so many watchers loaded.
 #[tactic(auto, unfolding(edit_model::specs::Verdicts::judged))]
-pub fn judge_set(units: &[u16], rows: &[SpanRow], asked: &AskedSpan, slots: u8) -> Verdict
-    requires text { length units.now ≤ 1048576 }
-    requires spans { length rows.now ≤ 4096 }
-    ensures verdict { result ≡ judged (state_of units.now rows.now) slots
+pub fn judge_set(text: &Halves, rows: &[SpanRow], asked: &AskedSpan, slots: u8) -> Verdict
+    requires spans { length rows.now ≤ Limits.SPANS }
+    ensures verdict { result ≡ judged (state_of (joined text.now) rows.now) slots
         (Set asked.now.id asked.now.start asked.now.end asked.now.flags asked.now.what) }
     ensures starts { result ≡ Done → pos 0 ≤ℤ asked.now.start }
     ensures ends { result ≡ Done → pos 0 ≤ℤ asked.now.end }
@@ -174,18 +167,17 @@ pub fn judge_set(units: &[u16], rows: &[SpanRow], asked: &AskedSpan, slots: u8) 
     if is_bad(asked.flags) {
         return Verdict::Refused(Refusal::Flags);
     }
-    judge_places(units, rows, asked)
+    judge_places(text, rows, asked)
 }
 
 /// The verdict of a set whose id, what and flags are free to it.
-fn judge_places(units: &[u16], rows: &[SpanRow], asked: &AskedSpan) -> Verdict
-    requires text { length units.now ≤ 1048576 }
-    requires spans { length rows.now ≤ 4096 }
-    ensures verdict { result ≡ first_of (place_lines (state_of units.now rows.now) asked.now) }
+fn judge_places(text: &Halves, rows: &[SpanRow], asked: &AskedSpan) -> Verdict
+    requires spans { length rows.now ≤ Limits.SPANS }
+    ensures verdict { result ≡ first_of (place_lines (state_of (joined text.now) rows.now) asked.now) }
     ensures starts { result ≡ Done → pos 0 ≤ℤ asked.now.start }
     ensures ends { result ≡ Done → pos 0 ≤ℤ asked.now.end }
 {
-    let len = units.len() as i64;
+    let len = i64::from(text.len());
     if asked.end < asked.start {
         return Verdict::Refused(Refusal::Order);
     }
@@ -195,26 +187,26 @@ fn judge_places(units: &[u16], rows: &[SpanRow], asked: &AskedSpan) -> Verdict
     if asked.start < 0 || asked.end < 0 {
         return Verdict::Refused(Refusal::Below);
     }
-    judge_kind(units, rows, asked)
+    judge_kind(text, rows, asked)
 }
 
 /// The verdict of a set whose places lie in the text too.
-fn judge_kind(units: &[u16], rows: &[SpanRow], asked: &AskedSpan) -> Verdict
-    requires spans { length rows.now ≤ 4096 }
+fn judge_kind(text: &Halves, rows: &[SpanRow], asked: &AskedSpan) -> Verdict
+    requires spans { length rows.now ≤ Limits.SPANS }
     requires starts { pos 0 ≤ℤ asked.now.start }
     requires ends { pos 0 ≤ℤ asked.now.end }
-    ensures { result ≡ first_of (kind_lines (state_of units.now rows.now) asked.now) }
+    ensures { result ≡ first_of (kind_lines (state_of (joined text.now) rows.now) asked.now) }
 {
-    if breaks_paragraph(units, asked.flags, place_of(asked.start)) {
+    if breaks_paragraph(text, asked.flags, place_of(asked.start)) {
         return Verdict::Refused(Refusal::ParagraphStart);
     }
-    if breaks_paragraph(units, asked.flags, place_of(asked.end)) {
+    if breaks_paragraph(text, asked.flags, place_of(asked.end)) {
         return Verdict::Refused(Refusal::ParagraphEnd);
     }
     if is_point_mark(kind_of_word(asked.flags)) && asked.start == asked.end {
         return Verdict::Ignored;
     }
-    if spans_after(rows, asked.id) > Limits::SPANS as usize {
+    if span_count_after_set(rows, asked.id) > Limits::SPANS as usize {
         return Verdict::Refused(Refusal::SpansFull);
     }
     Verdict::Done
@@ -222,9 +214,9 @@ fn judge_kind(units: &[u16], rows: &[SpanRow], asked: &AskedSpan) -> Verdict
 
 /// How many spans are attached after a set of this id.
 #[tactic(auto, using(crate::proofs::Lists::lengths))]
-fn spans_after(rows: &[SpanRow], id: u32) -> usize
-    requires { length rows.now ≤ 4096 }
-    ensures { result ≡ spans_after (state_of [] rows.now) id }
+fn span_count_after_set(rows: &[SpanRow], id: u32) -> usize
+    requires { length rows.now ≤ Limits.SPANS }
+    ensures { result ≡ span_count_after_set (state_of [] rows.now) id }
 {
     if is_attached(rows, id) {
         rows.len()
@@ -251,7 +243,7 @@ pub fn judge_remove(rows: &[SpanRow], id: u32) -> Verdict
 pub fn is_attached(rows: &[SpanRow], id: u32) -> bool
     ensures { result ≡ is_attached id (spans_in rows.now) }
 {
-    rows.iter().any(|row| row.id == id)
+    place_of_id(rows, id).is_some()
 }
 
 /// Whether this what watches, and has no slot or one that another span watches for.
@@ -285,10 +277,10 @@ fn is_kept_what(what: What) -> bool
 }
 
 /// Whether a paragraph span may not start or end at this place.
-fn breaks_paragraph(units: &[u16], flags: u32, at: u32) -> bool
-    ensures { result ≡ (is_paragraph (kind_of flags) && not (is_boundary units.now at)) }
+fn breaks_paragraph(text: &Halves, flags: u32, at: u32) -> bool
+    ensures { result ≡ (is_paragraph (kind_of flags) && not (is_boundary (joined text.now) at)) }
 {
-    matches!(kind_of_word(flags), Kind::Paragraph) && !is_boundary(units, at)
+    is_paragraph(kind_of_word(flags)) && !is_boundary(text, at)
 }
 
 /// Whether a flags word is bad.
@@ -296,11 +288,4 @@ fn is_bad(flags: u32) -> bool
     ensures { result ≡ is_bad flags }
 {
     flags_of(flags).is_err()
-}
-
-/// Whether spans of this kind may not be empty.
-pub fn is_point_mark(kind: Kind) -> bool
-    ensures { result ≡ is_point_mark kind }
-{
-    matches!(kind, Kind::PointMark)
 }

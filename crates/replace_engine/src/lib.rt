@@ -2,10 +2,12 @@
 #![tactic(auto)]
 
 mod arriving;
-mod boundaries;
-mod cut;
+#[cfg(test)]
+mod change_tests;
+mod changes;
 mod exchanging;
 mod followers;
+mod ids;
 mod judging;
 mod moving;
 mod places;
@@ -18,7 +20,8 @@ mod telling;
 mod tests;
 mod text;
 
+pub use changes::{Change, MovedRow, MovedRows, MovedRowsIter};
 pub use edit_base::{Incoming, NewSpan, Pick};
-pub use edit_model::{Change, MovedRow, Step};
+pub use edit_model::Step;
 pub use followers::{Follower, Unfollowed};
 pub use text::SpannedText;

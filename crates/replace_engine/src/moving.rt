@@ -1,92 +1,117 @@
 //! Spans that a replacement empties and moves.
 
-ghost use Rattle.std.specs.Prelude.{◌≡◌, ◌≤◌, ◌<◌, [], true, not, map, filter, length, vec_capacity};
+ghost use Rattle.std.specs.Prelude.{◌≡◌, ◌≤◌, ◌<◌, ◌+◌, ◌++◌, [], ◌∷◌, true, Some, List, length, take, vec_capacity};
 ghost use Rattle.std.specs.List.{All};
+ghost use Rattle.edit_base.specs.declared.bounds.TheConstants.Limits.{SPANS};
 ghost use Rattle.edit_model.specs.Boundaries.{next_boundary};
-ghost use Rattle.edit_model.specs.Flags.{kind_of, is_paragraph};
-ghost use Rattle.edit_model.specs.Replaced.{is_emptied, moved_span, kept_spans};
-ghost use Rattle.edit_model.specs.Changed.{effect_of, span_of, shift_of, has_moved};
-ghost use Rattle.replace_engine.specs.Rows.{HasRoom, KeepsRoom, spans_in, state_of, move_by};
-ghost use Rattle.replace_engine.specs.Moved.{has_paragraph, moved_row, is_emptied_row, has_moved_by, exchanged_effect, IsRowOver};
+ghost use Rattle.edit_model.specs.Replaced.{moved_span, emptied_spans, kept_spans, stayed_spans};
+ghost use Rattle.edit_model.specs.Changed.{has_moved, replaced_effect};
+ghost use Rattle.edit_model.specs.State.{Span};
+ghost use Rattle.edit_model.specs.Rows.{span_of, spans_in, state_of};
+ghost use Rattle.replace_engine.specs.Changes.{effect_of};
+ghost use Rattle.replace_engine.specs.Moves.{ArePlaced, moved_of, shift_between, moved_shifts};
+ghost use Rattle.replace_engine.specs.Rows.{HasRoom, KeepsRoom};
+ghost use Rattle.text_cut.specs.Halves.{joined};
+ghost use Rattle.text_cut.specs.Pulled.{has_pulled_end, pulls_one};
+ghost use Rattle.replace_engine.specs.Moved.{is_emptied_row, IsRowOver};
 
-use crate::boundaries::next_boundary;
-use crate::cut::Cut;
-use crate::judging::is_point_mark;
+use crate::changes::{Change, MovedRows};
 use crate::room::push_within;
 use crate::telling::start_change;
 use edit_base::SpanRow;
-use edit_model::{Change, MovedRow};
-use span_flags::{Kind, end_of_kind, kind_of_word, start_of};
-
-/// The boundary behind a place, where a paragraph span is attached, else the text's end.
-pub fn boundary_behind(units: &[u16], rows: &[SpanRow], place: u32) -> u32
-    requires text { length units.now ≤ 1048576 }
-    requires place { place ≤ length units.now }
-    ensures next { has_paragraph (spans_in rows.now) ≡ true → result ≡ next_boundary units.now place }
-    ensures within { result ≤ length units.now }
-{
-    if has_paragraph(rows) {
-        next_boundary(units, place)
-    } else {
-        units.len() as u32
-    }
-}
-
-fn has_paragraph(rows: &[SpanRow]) -> bool
-    ensures { result ≡ has_paragraph (spans_in rows.now) }
-{
-    rows.iter().any(|row| is_paragraph(row.flags))
-}
-
-fn is_paragraph(flags: u32) -> bool
-    ensures { result ≡ is_paragraph (kind_of flags) }
-{
-    matches!(kind_of_word(flags), Kind::Paragraph)
-}
+use span_flags::{end_of_kind, is_point_mark, kind_of_word, start_of};
+use text_cut::Cut;
 
 /// Emptied spans go, every other end moves, and the change says so.
 pub fn move_spans(rows: &mut Vec<SpanRow>, cut: &Cut, change: &mut Change)
+    requires few { length (spans_in rows.old.items) ≤ SPANS }
     requires told { HasRoom (length rows.old.items) change.old }
-    requires over { All (IsRowOver (length cut.now.units.now)) rows.old.items }
-    requires boundary { has_paragraph (spans_in rows.old.items) ≡ true
-        → cut.now.boundary ≡ next_boundary cut.now.units.now cut.now.end }
-    ensures rows { spans_in rows.new.items ≡ map (moved_span cut.now.start cut.now.end cut.now.grown cut.now.units.now)
-        (kept_spans cut.now.start cut.now.end cut.now.grown (spans_in rows.old.items)) }
+    requires over { All (IsRowOver (length (joined cut.now.text))) rows.old.items }
+    requires boundary { pulls_one cut.now.start cut.now.end (spans_in rows.old.items) ≡ true
+        → cut.now.boundary ≡ Some (next_boundary (joined cut.now.text) cut.now.end) }
+    ensures rows { spans_in rows.new.items
+        ≡ stayed_spans (state_of (joined cut.now.text) rows.old.items) cut.now.start cut.now.end cut.now.grown }
     ensures effect { effect_of change.new
-        ≡ exchanged_effect (state_of cut.now.units.now rows.old.items) cut.now.start cut.now.end cut.now.grown [] }
+        ≡ replaced_effect (state_of (joined cut.now.text) rows.old.items) cut.now.start cut.now.end cut.now.grown [] }
+    ensures stood { change.new.moved.stood ≡ length rows.new.items }
+    ensures placed { ArePlaced (spans_in rows.new.items) change.new.moved }
     ensures none { change.new.added.items ≡ [] }
     ensures fewer { length rows.new.items ≤ length rows.old.items }
     ensures capacity { vec_capacity rows.old ≤ vec_capacity rows.new }
     ensures lists { KeepsRoom change.old change.new }
 {
     start_change(change, cut.start, cut.end, cut.grown);
-    collect_emptied(rows, cut, &mut change.removed);
-    drop_emptied(rows, cut);
-    move_rows(rows, cut, &mut change.moved);
+    let kept = pass_rows(rows, cut, &mut change.removed, &mut change.moved);
+    rows.truncate(kept);
 }
 
-/// The rows that are emptied.
-fn collect_emptied(rows: &[SpanRow], cut: &Cut, emptied: &mut Vec<SpanRow>)
-    requires none { emptied.old.items ≡ [] }
-    requires room { length rows.now ≤ vec_capacity emptied.old }
-    ensures emptied { emptied.new.items ≡ filter (is_emptied_row cut.now.start cut.now.end cut.now.grown) rows.now }
-    ensures capacity { vec_capacity emptied.old ≤ vec_capacity emptied.new }
+// One pass over the rows: an emptied one goes to the removed, and any other is moved, told of and kept in front of
+// those that follow. How many are kept.
+fn pass_rows(
+    rows: &mut [SpanRow],
+    cut: &Cut,
+    removed: &mut Vec<SpanRow>,
+    moved: &mut MovedRows,
+) -> usize
+    requires few { length (spans_in rows.old) ≤ SPANS }
+    requires none { removed.old.items ≡ [] }
+    requires start { moved.old.stood ≡ 0 }
+    requires told { moved.old.told ≡ [] }
+    requires room { length rows.old ≤ vec_capacity removed.old }
+    requires moved_room { length rows.old ≤ moved.old.room }
+    requires over { All (IsRowOver (length (joined cut.now.text))) rows.old }
+    requires boundary { pulls_one cut.now.start cut.now.end (spans_in rows.old) ≡ true
+        → cut.now.boundary ≡ Some (next_boundary (joined cut.now.text) cut.now.end) }
+    ensures kept { spans_in (take result rows.new)
+        ≡ stayed_spans (state_of (joined cut.now.text) rows.old) cut.now.start cut.now.end cut.now.grown }
+    ensures few { result ≤ length rows.old }
+    ensures removed { spans_in removed.new.items
+        ≡ emptied_spans cut.now.start cut.now.end cut.now.grown (spans_in rows.old) }
+    ensures moved { moved_of moved.new
+        ≡ moved_shifts (moved_span cut.now.start cut.now.end cut.now.grown (joined cut.now.text))
+        (kept_spans cut.now.start cut.now.end cut.now.grown (spans_in rows.old)) }
+    ensures stood { moved.new.stood ≡ result }
+    ensures placed { ArePlaced (spans_in (take result rows.new)) moved.new }
+    ensures capacity { vec_capacity removed.old ≤ vec_capacity removed.new }
+    ensures moved_capacity { moved.old.room ≤ moved.new.room }
 {
-    for row in rows {
-        if is_emptied(row, cut) {
-            push_within(emptied, *row);
+    let mut kept = 0;
+    for at in 0..rows.len() {
+        let row = rows[at];
+        if is_emptied(&row, cut) {
+            push_within(removed, row);
+        } else {
+            rows[kept] = keep_row(&row, cut, moved);
+            kept += 1;
         }
     }
+    kept
 }
 
-/// The rows that aren't emptied are kept.
-fn drop_emptied(rows: &mut Vec<SpanRow>, cut: &Cut)
-    ensures kept { rows.new.items
-        ≡ filter (λ row. not (is_emptied_row cut.now.start cut.now.end cut.now.grown row)) rows.old.items }
-    ensures fewer { length rows.new.items ≤ length rows.old.items }
-    ensures capacity { vec_capacity rows.old ≤ vec_capacity rows.new }
+// The row where it goes, which is told of where it moves.
+fn keep_row(row: &SpanRow, cut: &Cut, moved: &mut MovedRows) -> SpanRow
+    requires most { moved.old.stood < SPANS }
+    requires room { moved.old.stood < moved.old.room }
+    requires over { IsRowOver (length (joined cut.now.text)) row.now }
+    requires boundary { has_pulled_end cut.now.start cut.now.end (span_of row.now) ≡ true
+        → cut.now.boundary ≡ Some (next_boundary (joined cut.now.text) cut.now.end) }
+    ensures row { span_of result
+        ≡ moved_span cut.now.start cut.now.end cut.now.grown (joined cut.now.text) (span_of row.now) }
+    ensures moved { moved_of moved.new ≡ moved_of moved.old
+        ++ moved_shifts (moved_span cut.now.start cut.now.end cut.now.grown (joined cut.now.text))
+        (span_of row.now ∷ []) }
+    ensures stood { moved.new.stood ≡ moved.old.stood + 1 }
+    ensures placed { (spans : List Span) → length spans ≡ moved.old.stood → ArePlaced spans moved.old
+        → ArePlaced (spans ++ span_of result ∷ []) moved.new }
+    ensures capacity { moved.old.room ≤ moved.new.room }
 {
-    rows.retain(|row| !is_emptied(row, cut));
+    let to = moved_row(row, cut);
+    if has_moved(row, &to) {
+        moved.tell(row, &to);
+    } else {
+        moved.pass(1);
+    }
+    to
 }
 
 /// Whether the span may not be empty, and is emptied.
@@ -100,44 +125,24 @@ pub fn is_emptied(row: &SpanRow, cut: &Cut) -> bool
         && (cut.grown == 0 || cut.start < row.start || row.end < cut.end)
 }
 
-/// Each row goes where the end table takes it, and those that move are told of.
-fn move_rows(rows: &mut [SpanRow], cut: &Cut, moved: &mut Vec<MovedRow>)
-    requires none { moved.old.items ≡ [] }
-    requires room { length rows.old ≤ vec_capacity moved.old }
-    requires over { All (IsRowOver (length cut.now.units.now)) rows.old }
-    requires boundary { has_paragraph (spans_in rows.old) ≡ true
-        → cut.now.boundary ≡ next_boundary cut.now.units.now cut.now.end }
-    ensures rows { rows.new ≡ map (moved_row cut.now.start cut.now.end cut.now.grown cut.now.units.now) rows.old }
-    ensures moved { let move = moved_row cut.now.start cut.now.end cut.now.grown cut.now.units.now in
-        moved.new.items ≡ map (move_by move) (filter (has_moved_by move) rows.old) }
-    ensures capacity { vec_capacity moved.old ≤ vec_capacity moved.new }
-{
-    for row in rows.iter_mut() {
-        let to = moved_row(row, cut);
-        if has_moved(row, &to) {
-            push_within(moved, MovedRow { from: *row, to });
-        }
-        *row = to;
-    }
-}
-
-/// The row with its ends where the end table takes them.
+// The row with its ends where the end table takes them.
 fn moved_row(row: &SpanRow, cut: &Cut) -> SpanRow
-    requires over { IsRowOver (length cut.now.units.now) row.now }
-    requires boundary { is_paragraph (kind_of row.now.flags) ≡ true
-        → cut.now.boundary ≡ next_boundary cut.now.units.now cut.now.end }
-    ensures { result ≡ moved_row cut.now.start cut.now.end cut.now.grown cut.now.units.now row.now }
+    requires over { IsRowOver (length (joined cut.now.text)) row.now }
+    requires boundary { has_pulled_end cut.now.start cut.now.end (span_of row.now) ≡ true
+        → cut.now.boundary ≡ Some (next_boundary (joined cut.now.text) cut.now.end) }
+    ensures { span_of result
+        ≡ moved_span cut.now.start cut.now.end cut.now.grown (joined cut.now.text) (span_of row.now) }
 {
     let kind = kind_of_word(row.flags);
     SpanRow {
-        start: cut.end_after(start_of(kind), row.start),
-        end: cut.end_after(end_of_kind(kind), row.end),
+        start: cut.end_after(row.id, start_of(kind), row.start),
+        end: cut.end_after(row.id, end_of_kind(kind), row.end),
         ..*row
     }
 }
 
 fn has_moved(from: &SpanRow, to: &SpanRow) -> bool
-    ensures { result ≡ has_moved (shift_of (record { from = from.now; to = to.now })) }
+    ensures { result ≡ has_moved (shift_between from.now to.now) }
 {
     !(from.start == to.start && from.end == to.end)
 }

@@ -3,13 +3,13 @@
 ghost use Rattle.std.specs.Prelude.{◌≡◌, ◌-◌, ◌&&◌, [], filter, nat_lt, if◌then◌else◌, OnOk, OnErr};
 ghost use Rattle.std.specs.List.{All};
 ghost use Rattle.std.specs.List.Sorted.{IsPermutation};
-ghost use Rattle.edit_model.specs.Changed.{span_of};
+ghost use Rattle.edit_model.specs.Rows.{span_of};
 ghost use Rattle.edit_model.specs.Flags.{priority_of};
-ghost use Rattle.edit_model.specs.Over.{by_priority, is_layout, is_picked, is_watch, lies_over, next_edge, over};
-ghost use Rattle.replace_engine.specs.Rows.{spans_in, IsAtOrder};
+ghost use Rattle.edit_model.specs.Over.{by_priority, is_picked, lies_over, next_edge, over};
+ghost use Rattle.edit_model.specs.Rows.{spans_in, IsAtOrder};
 
-use edit_base::{NoMemory, Pick, SpanRow, What};
-use span_flags::priority_of_word;
+use edit_base::{NoMemory, Pick, SpanRow};
+use span_flags::{is_picked, lies_over, priority_of_word};
 
 /// The rows over a range that are picked, by priority and then in order of attachment, each with its place in the list
 /// as its order. `out` is cleared first, and empty where there is no memory.
@@ -21,7 +21,7 @@ pub fn spans_over(
     out: &mut Vec<SpanRow>,
 ) -> Result<(), NoMemory>
     ensures ok { OnOk result (spans_in out.new.items ≡ over start end pick (spans_in rows.now)) }
-    ensures orders { All (IsAtOrder rows.now) out.new.items }
+    ensures orders { All (IsAtOrder (spans_in rows.now)) out.new.items }
     ensures err { OnErr result (out.new.items ≡ []) }
 {
     out.clear();
@@ -45,7 +45,7 @@ fn find_in_order(
 ) -> Result<(), NoMemory>
     requires none { out.old.items ≡ [] }
     ensures ok { OnOk result (spans_in out.new.items ≡ over start end pick (spans_in rows.now)) }
-    ensures orders { All (IsAtOrder rows.now) out.new.items }
+    ensures orders { All (IsAtOrder (spans_in rows.now)) out.new.items }
 {
     find(rows, start, end, pick, out)?;
     sort(out)?;
@@ -63,7 +63,7 @@ fn find(
     requires none { out.old.items ≡ [] }
     ensures ok { OnOk result (spans_in out.new.items
         ≡ filter (λ span. lies_over start end span && is_picked pick span.what) (spans_in rows.now)) }
-    ensures orders { All (IsAtOrder rows.now) out.new.items }
+    ensures orders { All (IsAtOrder (spans_in rows.now)) out.new.items }
 {
     for (at, row) in rows.iter().enumerate() {
         if is_found(row, start, end, pick) {
@@ -96,41 +96,6 @@ fn rank(row: &SpanRow) -> u8
     ensures { result ≡ 255 - priority_of row.now.flags }
 {
     u8::MAX - priority_of_word(row.flags)
-}
-
-/// Whether a span touches the range, and does more than touch it where neither is empty.
-fn lies_over(row: &SpanRow, start: u32, end: u32) -> bool
-    ensures { result ≡ lies_over start end (span_of row.now) }
-{
-    row.start <= end
-        && start <= row.end
-        && (row.start == row.end || start == end || (row.start != end && row.end != start))
-}
-
-fn is_picked(pick: Pick, what: What) -> bool
-    ensures { result ≡ is_picked pick what }
-{
-    match pick {
-        Pick::All => true,
-        Pick::Watches => is_watch(what),
-        Pick::Layout => is_layout(what),
-    }
-}
-
-/// Whether this is the seat of a watcher.
-pub fn is_watch(what: What) -> bool
-    ensures { result ≡ is_watch what }
-{
-    matches!(what, What::Watch(_))
-}
-
-fn is_layout(what: What) -> bool
-    ensures { result ≡ is_layout what }
-{
-    matches!(
-        what,
-        What::Face(_) | What::Margin { .. } | What::Float { .. }
-    )
 }
 
 /// The least place behind `after` and below `limit` where a span starts or ends, else `limit`.

@@ -1,19 +1,23 @@
 //! Room in lists, so that an edit can be done and told without memory.
 
 ghost use Rattle.std.specs.Prelude.{◌≡◌, ◌≤◌, ◌<◌, ◌+◌, ◌++◌, ◌∷◌, [], vec_len, vec_capacity, OnOk, IsOk};
-ghost use Rattle.replace_engine.specs.Rows.{HasRoom, KeepsRoom};
+ghost use Rattle.replace_engine.specs.Changes.{effect_of};
+ghost use Rattle.replace_engine.specs.Rows.{HasRoom, IsTold, KeepsRoom};
 
+use crate::changes::Change;
 use edit_base::{NoMemory, SpanRow};
-use edit_model::Change;
 
-/// Room for `count` items in all. Where there is room already it asks for no memory.
+/// Room for `count` items in all. Where there is room already nothing is asked for, and the capacity stays.
 pub fn make_room<T>(list: &mut Vec<T>, count: usize) -> Result<(), NoMemory>
     ensures ok { OnOk result (count ≤ vec_capacity list.new) }
     ensures items { list.new.items ≡ list.old.items }
     ensures capacity { vec_capacity list.old ≤ vec_capacity list.new }
+    ensures stays { count ≤ vec_capacity list.old → vec_capacity list.new ≡ vec_capacity list.old }
     ensures room { count ≤ vec_capacity list.old → IsOk result }
 {
-    list.reserve(count.saturating_sub(list.len()))?;
+    if count > list.capacity() {
+        list.reserve(count - list.len())?;
+    }
     Ok(())
 }
 
@@ -39,17 +43,17 @@ pub fn reserve_rows(
     ensures ok { OnOk result (vec_len rows.old + more ≤ vec_capacity rows.new) }
     ensures told { OnOk result (HasRoom (vec_len rows.old + more) change.new) }
     ensures rows { rows.new.items ≡ rows.old.items }
-    ensures change { (change.new.start ≡ change.old.start) × (change.new.old_end ≡ change.old.old_end)
-        × (change.new.grown ≡ change.old.grown) × (change.new.removed.items ≡ change.old.removed.items)
-        × (change.new.moved.items ≡ change.old.moved.items) × (change.new.added.items ≡ change.old.added.items) }
+    ensures effect { effect_of change.new ≡ effect_of change.old }
+    ensures tells { IsTold rows.old.items change.old → IsTold rows.new.items change.new }
     ensures capacity { vec_capacity rows.old ≤ vec_capacity rows.new }
     ensures lists { KeepsRoom change.old change.new }
-    ensures room { vec_len rows.old + more ≤ vec_capacity rows.old → HasRoom (vec_len rows.old + more) change.old → IsOk result }
+    ensures room { vec_len rows.old + more ≤ vec_capacity rows.old → HasRoom (vec_len rows.old + more) change.old
+        → IsOk result }
 {
     let count = rows.len() + more;
     make_room(rows, count)?;
     make_room(&mut change.removed, count)?;
-    make_room(&mut change.moved, count)?;
+    change.moved.reserve(count)?;
     make_room(&mut change.added, count)?;
     Ok(())
 }

@@ -3,7 +3,7 @@
 ghost use Rattle.std.specs.Prelude.{◌≡◌, ◌≤◌, ◌<◌, [], vec_len, vec_capacity};
 ghost use Rattle.replace_engine.specs.Rows.{KeepsRoom};
 
-use edit_model::Change;
+use crate::changes::Change;
 
 /// A change of these numbers that tells of no span yet.
 pub fn start_change(change: &mut Change, start: u32, old_end: u32, grown: u32)
@@ -11,7 +11,8 @@ pub fn start_change(change: &mut Change, start: u32, old_end: u32, grown: u32)
     ensures old_end { change.new.old_end ≡ old_end }
     ensures grown { change.new.grown ≡ grown }
     ensures removed { change.new.removed.items ≡ [] }
-    ensures moved { change.new.moved.items ≡ [] }
+    ensures moved { change.new.moved.told ≡ [] }
+    ensures stood { change.new.moved.stood ≡ 0 }
     ensures added { change.new.added.items ≡ [] }
     ensures room { KeepsRoom change.old change.new }
 {

@@ -1,16 +1,17 @@
 //! Edits and queries at work: their verdicts, what they leave and change, and the limits.
 
-ghost use Rattle.std.specs.Prelude.{◌≡◌, ◌<◌, nat_le};
+ghost use Rattle.std.specs.Prelude.{◌≡◌, ◌<◌, nat_le, IfOk};
 ghost use Rattle.edit_model.specs.Brought.{IsBrought};
 ghost use Rattle.edit_model.specs.State.{State};
 ghost use Rattle.edit_model.specs.Leads.{LeadsTo};
 
+use crate::changes::Change;
 use crate::followers::{Follower, Unfollowed};
 use crate::text::SpannedText;
 use edit_base::{
     Incoming, Items, NewSpan, NoMemory, Pick, Refusal, SpanRow, Steps, Verdict, What, units_of,
 };
-use edit_model::{Change, Step};
+use edit_model::Step;
 use std::alloc::Global;
 use std::marker::Brand;
 use std::process::Abort;
@@ -18,7 +19,7 @@ use std::sync::ledger::{Blank, Ledger};
 use std::test::Fail;
 
 /// What brings these units, and these spans over them.
-fn bringing(rt: &impl Abort, alloc: Global, units: Vec<u16>, spans: Vec<NewSpan>) -> Incoming
+fn bringing(rt: &impl Abort, units: Vec<u16>, spans: Vec<NewSpan>, composing: bool) -> Incoming
     ensures { IsBrought result }
 {
     assert!(rt; units.len() <= 65_536);
@@ -27,7 +28,7 @@ fn bringing(rt: &impl Abort, alloc: Global, units: Vec<u16>, spans: Vec<NewSpan>
     Incoming {
         units: Items::from_vec(units),
         spans: Items::from_vec(spans),
-        composing: false,
+        composing,
     }
 }
 
@@ -38,7 +39,7 @@ fn is_ordered(span: &NewSpan) -> bool
 }
 
 /// An id, a start, an end and a flags word, and what the span carries.
-type Came = (u32, u32, u32, u32, What);
+pub(crate) type Came = (u32, u32, u32, u32, What);
 
 /// The incoming spans.
 fn spans_of(alloc: Global, came: &[Came]) -> Result<Vec<NewSpan>, NoMemory> {
@@ -55,30 +56,51 @@ fn spans_of(alloc: Global, came: &[Came]) -> Result<Vec<NewSpan>, NoMemory> {
     Ok(spans)
 }
 
+/// The text and the spans that come, and whether the composing region does.
+fn incoming_of(
+    rt: &impl Abort,
+    alloc: Global,
+    brought: &str,
+    came: &[Came],
+    composing: bool,
+) -> Result<Incoming, NoMemory>
+    ensures { IfOk result (λ incoming. IsBrought incoming) }
+{
+    let units = units_of(alloc, brought)?;
+    let spans = spans_of(alloc, came)?;
+    Ok(bringing(rt, units, spans, composing))
+}
+
 /// An edit that is asked for; every span set is a tag but the seat of a watcher.
 #[derive(Clone, Copy, Debug)]
-enum Ask<'a> {
+pub(crate) enum Ask<'a> {
     Replace(i32, i32, &'a str),
     Bring(i32, i32, &'a str, &'a [Came]),
+    Compose(i32, i32, &'a str, &'a [Came]),
     Set(u32, i32, i32, u32, u32),
     Seat(u32, u8),
     Remove(u32),
 }
 
 /// An edit and its verdict.
-type Case<'a> = (Ask<'a>, Verdict);
+pub(crate) type Case<'a> = (Ask<'a>, Verdict);
 
 fn step_of(rt: &impl Abort, alloc: Global, ask: Ask) -> Result<Step, NoMemory> {
     Ok(match ask {
         Ask::Replace(start, end, brought) => Step::Replace {
             start,
             end,
-            incoming: bringing(rt, alloc, units_of(alloc, brought)?, Vec::new(alloc)),
+            incoming: incoming_of(rt, alloc, brought, &[], false)?,
         },
         Ask::Bring(start, end, brought, came) => Step::Replace {
             start,
             end,
-            incoming: bringing(rt, alloc, units_of(alloc, brought)?, spans_of(alloc, came)?),
+            incoming: incoming_of(rt, alloc, brought, came, false)?,
+        },
+        Ask::Compose(start, end, brought, came) => Step::Replace {
+            start,
+            end,
+            incoming: incoming_of(rt, alloc, brought, came, true)?,
         },
         Ask::Set(id, start, end, flags, tag) => Step::Set {
             id,
@@ -99,7 +121,7 @@ fn step_of(rt: &impl Abort, alloc: Global, ask: Ask) -> Result<Step, NoMemory> {
 }
 
 /// What the edit is answered, with one watcher loaded.
-fn edit<L: Ledger>(
+pub(crate) fn edit<L: Ledger>(
     rt: &impl Abort,
     alloc: Global,
     text: &mut SpannedText,
@@ -108,11 +130,15 @@ fn edit<L: Ledger>(
 ) -> Result<Verdict, NoMemory> {
     match ask {
         Ask::Replace(start, end, brought) => {
-            let incoming = bringing(rt, alloc, units_of(alloc, brought)?, Vec::new(alloc));
+            let incoming = incoming_of(rt, alloc, brought, &[], false)?;
             text.replace(start, end, &incoming, steps)
         }
         Ask::Bring(start, end, brought, came) => {
-            let incoming = bringing(rt, alloc, units_of(alloc, brought)?, spans_of(alloc, came)?);
+            let incoming = incoming_of(rt, alloc, brought, came, false)?;
+            text.replace(start, end, &incoming, steps)
+        }
+        Ask::Compose(start, end, brought, came) => {
+            let incoming = incoming_of(rt, alloc, brought, came, true)?;
             text.replace(start, end, &incoming, steps)
         }
         Ask::Set(id, start, end, flags, tag) => {
@@ -123,8 +149,8 @@ fn edit<L: Ledger>(
     }
 }
 
-/// Each edit is judged and answered so.
-fn plays<L: Ledger>(
+/// Each edit is judged and answered so, a replacement whatever the number of watchers.
+pub(crate) fn plays<L: Ledger>(
     rt: &impl Abort,
     alloc: Global,
     text: &mut SpannedText,
@@ -134,6 +160,20 @@ fn plays<L: Ledger>(
     for (ask, verdict) in cases {
         let step = step_of(rt, alloc, *ask)?;
         assert_eq!(rt; text.judge(&step, 1), *verdict, "{ask:?}");
+        if let Step::Replace {
+            start,
+            end,
+            incoming,
+        } = &step
+        {
+            assert_eq!(rt;
+                text.judge_replacement(*start, *end, incoming),
+                *verdict,
+                "{ask:?}"
+            );
+            assert_eq!(rt; text.judge(&step, 0), *verdict, "{ask:?}");
+            assert_eq!(rt; text.judge(&step, 255), *verdict, "{ask:?}");
+        }
         let answer = edit(rt, alloc, text, *ask, steps)?;
         assert_eq!(rt; answer, *verdict, "{ask:?}");
     }
@@ -141,9 +181,9 @@ fn plays<L: Ledger>(
 }
 
 /// An id, a start, an end, a flags word and a tag.
-type Tagged = (u32, u32, u32, u32, u32);
+pub(crate) type Tagged = (u32, u32, u32, u32, u32);
 
-/// A row with this order.
+/// A row with this order; that of the id 2 is the composing region.
 fn row(tagged: Tagged, order: u64) -> SpanRow {
     let (id, start, end, flags, tag) = tagged;
     SpanRow {
@@ -152,12 +192,16 @@ fn row(tagged: Tagged, order: u64) -> SpanRow {
         end,
         flags,
         order,
-        what: What::Tag(tag),
+        what: if id == 2 {
+            What::Composing
+        } else {
+            What::Tag(tag)
+        },
     }
 }
 
 /// The attached spans, in order of attachment.
-fn has_spans(rt: &impl Abort, text: &SpannedText, spans: &[Tagged]) {
+pub(crate) fn has_spans(rt: &impl Abort, text: &SpannedText, spans: &[Tagged]) {
     assert_eq!(rt; text.span_count() as usize, spans.len());
     for (at, span) in spans.iter().enumerate() {
         assert!(rt; (at as u32) < text.span_count());
@@ -277,7 +321,7 @@ fn arrivals<L: Ledger>(rt: &impl Abort, alloc: Global, blank: Blank) -> Result<(
         (Ask::Replace(0, 0, "ab\ncd"), done),
         (Ask::Set(5, 1, 4, 33, 0), done),
     ];
-    let cases: [Arrival; 16] = [
+    let cases: [Arrival; 20] = [
         // An id that is attached, an empty span that may not be, and an id that came before are skipped.
         (
             (
@@ -349,6 +393,17 @@ fn arrivals<L: Ledger>(rt: &impl Abort, alloc: Global, blank: Blank) -> Result<(
             (Ask::Bring(0, 5, "new", &[(5, 0, 3, 17, tag)]), done),
             &[(5, 0, 3, 17, 1)],
         ),
+        // The composing region comes last over all units that come, and not where none comes.
+        (
+            (Ask::Compose(1, 1, "z", &[(9, 0, 1, 17, tag)]), done),
+            &[(5, 2, 5, 33, 0), (9, 1, 2, 17, 1), (2, 1, 2, 289, 0)],
+        ),
+        (
+            (Ask::Compose(0, 5, "new", &[(5, 1, 9, 17, tag)]), done),
+            &[(5, 1, 3, 17, 1), (2, 0, 3, 289, 0)],
+        ),
+        ((Ask::Compose(0, 1, "", &[]), done), &[(5, 0, 3, 33, 0)]),
+        ((Ask::Compose(2, 2, "", &[]), Verdict::NoChange), before),
         // Where nothing goes and no unit comes, a span that is attached is a change, and skipped ones are none.
         (
             (Ask::Bring(2, 2, "", &[(12, 0, 9, 17, tag)]), done),
@@ -456,7 +511,7 @@ fn full<L: Ledger>(
     steps: &mut Steps<L>,
 ) -> Result<SpannedText, NoMemory> {
     let mut text = SpannedText::new(alloc)?;
-    let block = bringing(rt, alloc, vec![in alloc; 97; 65_536]?, Vec::new(alloc));
+    let block = bringing(rt, vec![in alloc; 97; 65_536]?, Vec::new(alloc), false);
     for _ in 0..16 {
         let done = text.replace(0, 0, &block, steps)?;
         assert_eq!(rt; done, Verdict::Done);
@@ -558,7 +613,7 @@ fn changes<L: Ledger>(rt: &impl Abort, alloc: Global, blank: Blank) -> Result<()
     let mut steps = Steps::<L>::start(blank);
     let mut text = SpannedText::new(alloc)?;
     tells(rt, text.change(), [0, 0, 0], [&[], &[], &[]]);
-    let told: [Told; 10] = [
+    let told: [Told; 12] = [
         (Ask::Replace(0, 0, "abcd"), [0, 0, 4], [&[], &[], &[]]),
         (Ask::Set(5, 0, 1, 17, 1), [0, 0, 0], [&[], &[], &[5]]),
         (Ask::Set(6, 1, 2, 33, 2), [0, 0, 0], [&[], &[], &[6]]),
@@ -582,6 +637,16 @@ fn changes<L: Ledger>(rt: &impl Abort, alloc: Global, blank: Blank) -> Result<()
             [0, 0, 1],
             [&[], &[7], &[9, 8]],
         ),
+        (
+            Ask::Compose(1, 1, "v", &[(10, 0, 1, 17, What::Tag(1))]),
+            [1, 1, 1],
+            [&[], &[7], &[10, 2]],
+        ),
+        (
+            Ask::Compose(1, 2, "vw", &[]),
+            [1, 2, 2],
+            [&[], &[7, 10, 2], &[]],
+        ),
     ];
     for (ask, numbers, ids) in &told {
         let _ = edit(rt, alloc, &mut text, *ask, &mut steps)?;
@@ -590,7 +655,7 @@ fn changes<L: Ledger>(rt: &impl Abort, alloc: Global, blank: Blank) -> Result<()
     Ok(())
 }
 
-/// A text of 4,096 spans takes no other, and still gives an attached one new places.
+/// A text of 4,096 spans takes no other, still gives an attached one new places, and skips it where it comes.
 fn crowd<L: Ledger>(rt: &impl Abort, alloc: Global, blank: Blank) -> Result<(), NoMemory>
     requires name { blank.name ≡ L.name }
     requires parts { blank.parts ≡ L.parts }
@@ -598,6 +663,7 @@ fn crowd<L: Ledger>(rt: &impl Abort, alloc: Global, blank: Blank) -> Result<(), 
 {
     let mut steps = Steps::<L>::start(blank);
     let mut text = SpannedText::new(alloc)?;
+    let tag = What::Tag(1);
     for id in 3..4_099 {
         let answer = edit(rt, alloc, &mut text, Ask::Set(id, 0, 0, 34, 0), &mut steps)?;
         assert_eq!(rt; answer, Verdict::Done);
@@ -608,9 +674,23 @@ fn crowd<L: Ledger>(rt: &impl Abort, alloc: Global, blank: Blank) -> Result<(), 
             Verdict::Refused(Refusal::SpansFull),
         ),
         (Ask::Set(3, 0, 0, 17, 0), Verdict::Done),
+        (Ask::Bring(0, 0, "a", &[(3, 0, 1, 17, tag)]), Verdict::Done),
+        (
+            Ask::Bring(0, 0, "", &[(3, 0, 1, 17, tag)]),
+            Verdict::NoChange,
+        ),
+        (
+            Ask::Bring(0, 0, "a", &[(3, 0, 1, 17, tag), (4_099, 0, 1, 17, tag)]),
+            Verdict::Refused(Refusal::SpansFull),
+        ),
+        (
+            Ask::Compose(0, 0, "a", &[]),
+            Verdict::Refused(Refusal::SpansFull),
+        ),
     ];
     plays(rt, alloc, &mut text, &cases, &mut steps)?;
     assert_eq!(rt; text.span_count(), 4_096);
+    assert_eq!(rt; text.len(), 1);
     Ok(())
 }
 

@@ -8,29 +8,34 @@ ghost use Rattle.edit_model.specs.declared.steps.Step.TheVariants.{Replace, Set,
 ghost use Rattle.edit_model.specs.State.{empty_state, place, text_end};
 ghost use Rattle.edit_model.specs.Attached.{is_attached};
 ghost use Rattle.edit_model.specs.WellFormed.{IsWellFormed, IsSeated};
-ghost use Rattle.edit_model.specs.Verdicts.{judged, length_after, spans_then};
-ghost use Rattle.edit_model.specs.Brought.{IsBrought};
+ghost use Rattle.edit_model.specs.Verdicts.{judged, length_after, span_count_then};
+ghost use Rattle.edit_model.specs.Brought.{IsBrought, coming_spans};
 ghost use Rattle.edit_model.specs.Replaced.{replaced, came_spans, spliced_length};
-ghost use Rattle.edit_model.specs.Changed.{no_effect, effect_of, replaced_effect, on_done, stepped, change_of, state_after, effect_after, span_of};
+ghost use Rattle.edit_model.specs.Rows.{span_of};
+ghost use Rattle.edit_model.specs.Changed.{no_effect, replaced_effect, on_done, stepped, change_of, state_after, effect_after};
+ghost use Rattle.replace_engine.specs.Changes.{effect_of};
+ghost use Rattle.replace_engine.specs.Moves.{ArePlaced};
 ghost use Rattle.edit_model.specs.Over.{next_edge, over};
-ghost use Rattle.replace_engine.specs.Rows.{newcomers, spans_in};
+ghost use Rattle.edit_model.specs.Rows.{spans_in};
+ghost use Rattle.text_cut.specs.Halves.{joined};
+ghost use Rattle.replace_engine.specs.Rows.{appended_by_set};
 ghost use Rattle.replace_engine.specs.Lines.{set_of};
 
 use crate::arriving::count_spans_then;
-use crate::cut::Cut;
+use crate::changes::{Change, MovedRows};
 use crate::exchanging::exchange_spans;
 use crate::judging::{AskedSpan, judge_remove, judge_replace, judge_set};
-use crate::moving::boundary_behind;
 use crate::places::place_of;
 use crate::queries::{next_edge, spans_over};
 use crate::room::{make_room, reserve_rows};
 use crate::setting::{remove_row, set_row};
 use crate::splice::splice;
 use edit_base::{Incoming, Limits, NoMemory, Pick, SpanRow, Steps, Verdict, What};
-use edit_model::{Change, Step};
+use edit_model::Step;
 use std::alloc::Global;
 use std::marker::Model;
 use std::sync::ledger::Ledger;
+use text_cut::{Cut, Halves, boundary_behind, coming_with};
 
 /// A text of at most 1,048,576 UTF-16 units, with its spans and what the last edit changed.
 #[derive(Drop)]
@@ -43,9 +48,10 @@ pub struct SpannedText {
 
 impl Model for SpannedText {
     ghost use Rattle.std.specs.Prelude.{◌-◌, length, vec_capacity};
-    ghost use Rattle.edit_model.specs.Changed.{effect_of};
+    ghost use Rattle.replace_engine.specs.Changes.{effect_of};
     ghost use Rattle.replace_engine.specs.Seen.{Seen};
-    ghost use Rattle.replace_engine.specs.Rows.{IsSound, span_room, state_of};
+    ghost use Rattle.edit_model.specs.Rows.{state_of};
+    ghost use Rattle.replace_engine.specs.Rows.{IsSound, span_room};
 
     ghost Value = { Seen };
 
@@ -58,6 +64,16 @@ impl Model for SpannedText {
     } };
 
     ghost invariant = { λ it. IsSound it.units.items it.rows.items it.change };
+}
+
+/// The text of these units as two halves. It is cut here alone, at its end.
+fn halves_of(units: &[u16]) -> Halves<'_>
+    requires { length units.now ≤ Limits.TEXT }
+    ensures joined { joined result ≡ units.now }
+    ensures cut { length result.left.now ≡ length units.now }
+{
+    let (left, right) = units.split_at(units.len());
+    Halves { left, right }
 }
 
 impl SpannedText {
@@ -76,7 +92,7 @@ impl SpannedText {
                 old_end: 0,
                 grown: 0,
                 removed: Vec::new(alloc),
-                moved: Vec::new(alloc),
+                moved: MovedRows::new(alloc),
                 added: Vec::new(alloc),
             },
         })
@@ -85,7 +101,7 @@ impl SpannedText {
     /// The length in UTF-16 units.
     pub fn len(&self) -> u32
         ensures len { result ≡ length self.now.state.units }
-        ensures limit { result ≤ 1048576 }
+        ensures limit { result ≤ Limits.TEXT }
         ensures well_formed { IsWellFormed self.now.state }
     {
         self.units.len() as u32
@@ -104,14 +120,15 @@ impl SpannedText {
         ensures joined { result.0.now ++ result.1.now ≡ self.now.state.units }
         ensures cut { length result.0.now ≡ self.now.gap }
     {
-        self.units.as_slice().split_at(self.units.len())
+        let text = halves_of(&self.units);
+        (text.left, text.right)
     }
 
     /// How many spans are attached.
     #[tactic(auto, using(crate::proofs::Lists::lengths))]
     pub fn span_count(&self) -> u32
         ensures count { result ≡ length self.now.state.spans }
-        ensures limit { result ≤ 4096 }
+        ensures limit { result ≤ Limits.SPANS }
     {
         self.rows.len() as u32
     }
@@ -154,7 +171,9 @@ impl SpannedText {
 
     /// What the last edit that was done changed.
     pub fn change(&self) -> &Change
-        ensures { effect_of result.now ≡ self.now.effect }
+        ensures effect { effect_of result.now ≡ self.now.effect }
+        ensures stood { result.now.moved.stood + length result.now.added.items ≡ length self.now.state.spans }
+        ensures placed { ArePlaced self.now.state.spans result.now.moved }
     {
         &self.change
     }
@@ -168,7 +187,7 @@ impl SpannedText {
                 start,
                 end,
                 incoming,
-            } => judge_replace(&self.units, &self.rows, *start, *end, incoming),
+            } => judge_replace(&halves_of(&self.units), &self.rows, *start, *end, incoming),
             Step::Set {
                 id,
                 start,
@@ -183,7 +202,7 @@ impl SpannedText {
                     flags: *flags,
                     what: *what,
                 };
-                judge_set(&self.units, &self.rows, &asked, slots)
+                judge_set(&halves_of(&self.units), &self.rows, &asked, slots)
             }
             Step::Remove { id } => judge_remove(&self.rows, *id),
         }
@@ -202,22 +221,26 @@ impl SpannedText {
         steps: &mut Steps<L>,
     ) -> Result<Verdict, NoMemory>
         requires { IsBrought incoming.now }
-        ensures verdict { IfOk result (λ verdict. verdict ≡ judged self.old.state 0 (Replace start end incoming.now)) }
-        ensures state { OnOk result (self.new.state ≡ state_after self.old.state 0 (Replace start end incoming.now)) }
-        ensures effect { OnOk result (self.new.effect
-            ≡ effect_after self.old.state 0 (Replace start end incoming.now) self.old.effect) }
+        ensures verdict { (slots : ℕ)
+            → IfOk result (λ verdict. verdict ≡ judged self.old.state slots (Replace start end incoming.now)) }
+        ensures state { (slots : ℕ)
+            → OnOk result (self.new.state ≡ state_after self.old.state slots (Replace start end incoming.now)) }
+        ensures effect { (slots : ℕ) → OnOk result (self.new.effect
+            ≡ effect_after self.old.state slots (Replace start end incoming.now) self.old.effect) }
         ensures gap_stays { IfOk result (λ verdict. verdict ≢ Done → self.new.gap ≡ self.old.gap) }
         ensures err { OnErr result ((self.new.state ≡ self.old.state) × (self.new.effect ≡ self.old.effect)
             × (self.new.gap ≡ self.old.gap)) }
 
-        // Within the spare units and without spans it succeeds, and a replacement takes at most as many spare units as
-        // it brings units, and at most one spare span for each span that is attached.
-        ensures room { length incoming.now.units ≤ self.old.spare_units → incoming.now.spans ≡ [] → IsOk result }
+        // Within the spare units, and where no span comes, it succeeds, and a replacement takes at most as many spare
+        // units as it brings units, and at most one spare span for each span that is attached.
+        ensures room { length incoming.now.units ≤ self.old.spare_units → coming_spans incoming.now ≡ [] → IsOk result }
         ensures spare_units { IfOk result (λ verdict. self.old.spare_units
             ≤ self.new.spare_units + on_done verdict (length incoming.now.units) 0) }
         ensures spare_spans { IfOk result (λ verdict. self.old.spare_spans
-            ≤ self.new.spare_spans + on_done verdict (length (came_spans self.old.state (place start) (place end) incoming.now)) 0) }
-        ensures spare_stays { OnErr result ((self.old.spare_units ≤ self.new.spare_units) × (self.old.spare_spans ≤ self.new.spare_spans)) }
+            ≤ self.new.spare_spans + on_done verdict
+            (length (came_spans self.old.state (place start) (place end) incoming.now)) 0) }
+        ensures spare_stays { OnErr result
+            ((self.old.spare_units ≤ self.new.spare_units) × (self.old.spare_spans ≤ self.new.spare_spans)) }
 
         ensures well_formed { IsWellFormed self.new.state }
         ensures seated { (slots : ℕ) → IsSeated slots self.old.state.spans → IsSeated slots self.new.state.spans }
@@ -230,18 +253,19 @@ impl SpannedText {
         Ok(verdict)
     }
 
-    /// The verdict of a replacement that isn't nested.
-    fn judge_replacement(&self, start: i32, end: i32, incoming: &Incoming) -> Verdict
+    /// The verdict of a replacement that isn't nested, its incoming text being filtered already. It doesn't depend on
+    /// how many watchers are loaded.
+    pub fn judge_replacement(&self, start: i32, end: i32, incoming: &Incoming) -> Verdict
         ensures verdict { (slots : ℕ) → result ≡ judged self.now.state slots (Replace start end incoming.now) }
         ensures least { result ≡ Done → pos 0 ≤ℤ start }
         ensures least_end { result ≡ Done → pos 0 ≤ℤ end }
         ensures order { result ≡ Done → start ≤ℤ end }
         ensures within { result ≡ Done → end ≤ℤ text_end self.now.state }
-        ensures limit { result ≡ Done → length_after self.now.state start end incoming.now ≤ 1048576 }
-        ensures few { result ≡ Done → spans_then self.now.state start end incoming.now ≤ 4096 }
+        ensures limit { result ≡ Done → length_after self.now.state start end incoming.now ≤ Limits.TEXT }
+        ensures few { result ≡ Done → span_count_then self.now.state start end incoming.now ≤ Limits.SPANS }
         ensures well_formed { IsWellFormed self.now.state }
     {
-        judge_replace(&self.units, &self.rows, start, end, incoming)
+        judge_replace(&halves_of(&self.units), &self.rows, start, end, incoming)
     }
 
     /// The units from `start` to `end` become the incoming ones, the spans with them, and the change says so. Without
@@ -250,39 +274,34 @@ impl SpannedText {
         requires brought { IsBrought incoming.now }
         requires order { start ≤ end }
         requires within { end ≤ length self.old.state.units }
-        requires limit { spliced_length (length self.old.state.units) start end (length incoming.now.units) ≤ 1048576 }
-        requires few { length (replaced self.old.state start end incoming.now).spans ≤ 4096 }
+        requires limit { spliced_length (length self.old.state.units) start end (length incoming.now.units)
+            ≤ Limits.TEXT }
+        requires few { length (replaced self.old.state start end incoming.now).spans ≤ Limits.SPANS }
         requires done { judged self.old.state 0 (Replace (pos start) (pos end) incoming.now) ≡ Done }
         ensures state { OnOk result (self.new.state ≡ replaced self.old.state start end incoming.now) }
-        ensures effect { OnOk result (self.new.effect ≡ replaced_effect self.old.state start end incoming.now) }
+        ensures effect { OnOk result (self.new.effect
+            ≡ replaced_effect self.old.state start end (length incoming.now.units)
+            (came_spans self.old.state start end incoming.now)) }
         ensures err { OnErr result ((self.new.state ≡ self.old.state) × (self.new.effect ≡ self.old.effect)
             × (self.new.gap ≡ self.old.gap)) }
-        ensures room { length incoming.now.units ≤ self.old.spare_units → incoming.now.spans ≡ [] → IsOk result }
+        ensures room { length incoming.now.units ≤ self.old.spare_units → coming_spans incoming.now ≡ [] → IsOk result }
         ensures spare_units { OnOk result (self.old.spare_units ≤ self.new.spare_units + length incoming.now.units) }
         ensures spare_spans { OnOk result (self.old.spare_spans
             ≤ self.new.spare_spans + length (came_spans self.old.state start end incoming.now)) }
-        ensures spare_stays { OnErr result ((self.old.spare_units ≤ self.new.spare_units) × (self.old.spare_spans ≤ self.new.spare_spans)) }
+        ensures spare_stays { OnErr result
+            ((self.old.spare_units ≤ self.new.spare_units) × (self.old.spare_spans ≤ self.new.spare_spans)) }
         ensures well_formed { IsWellFormed self.new.state }
         ensures seated { (slots : ℕ) → IsSeated slots self.old.state.spans → IsSeated slots self.new.state.spans }
     {
         let kept = self.units.len() - (end - start) as usize;
         make_room(&mut self.units, kept + incoming.units.len())?;
-        let most = incoming.spans.len().min(Limits::SPANS as usize);
+        let coming = coming_with(incoming);
+        let most = coming.len().min(Limits::SPANS as usize);
         reserve_rows(&mut self.rows, most, &mut self.change)?;
-        let cut = Cut {
-            units: &self.units,
-            brought: incoming.units.as_slice(),
-            start,
-            end,
-            grown: incoming.units.len() as u32,
-            boundary: boundary_behind(&self.units, &self.rows, end),
-        };
-        exchange_spans(
-            incoming.spans.as_slice(),
-            &cut,
-            &mut self.rows,
-            &mut self.change,
-        );
+        let text = halves_of(&self.units);
+        let boundary = boundary_behind(&text, &self.rows, start, end);
+        let cut = Cut::new(&text, start, end, incoming.units.as_slice(), boundary);
+        exchange_spans(&coming, &cut, &mut self.rows, &mut self.change);
         splice(
             &mut self.units,
             start as usize,
@@ -293,31 +312,31 @@ impl SpannedText {
     }
 
     /// How many spans would stand after a replacement that is refused since they are too many.
-    pub fn spans_then(&self, start: i32, end: i32, incoming: &Incoming) -> u32
+    pub fn span_count_then(&self, start: i32, end: i32, incoming: &Incoming) -> u32
         requires brought { IsBrought incoming.now }
         requires full { judged self.now.state 0 (Replace start end incoming.now) ≡ Refused SpansFull }
-        ensures { result ≡ spans_then self.now.state start end incoming.now }
+        ensures { result ≡ span_count_then self.now.state start end incoming.now }
     {
-        self.spans_behind(place_of(start), place_of(end), incoming)
+        self.count_spans_behind(place_of(start), place_of(end), incoming)
     }
 
     /// How many spans stand after a replacement.
-    fn spans_behind(&self, start: u32, end: u32, incoming: &Incoming) -> u32
+    fn count_spans_behind(&self, start: u32, end: u32, incoming: &Incoming) -> u32
         requires brought { IsBrought incoming.now }
         requires order { start ≤ end }
         requires within { end ≤ length self.now.state.units }
-        requires limit { spliced_length (length self.now.state.units) start end (length incoming.now.units) ≤ 1048576 }
+        requires limit { spliced_length (length self.now.state.units) start end (length incoming.now.units)
+            ≤ Limits.TEXT }
         ensures { result ≡ length (replaced self.now.state start end incoming.now).spans }
     {
-        let cut = Cut {
-            units: &self.units,
-            brought: incoming.units.as_slice(),
+        let cut = Cut::new(
+            &halves_of(&self.units),
             start,
             end,
-            grown: incoming.units.len() as u32,
-            boundary: self.units.len() as u32,
-        };
-        count_spans_then(incoming.spans.as_slice(), &cut, &self.rows) as u32
+            incoming.units.as_slice(),
+            None,
+        );
+        count_spans_then(&coming_with(incoming), &cut, &self.rows) as u32
     }
 
     /// Gives an attached span these places, flags and what, in its place of the order, or attaches a span behind all
@@ -345,7 +364,7 @@ impl SpannedText {
         ensures attached { is_attached id self.old.state.spans ≡ true → IsOk result }
         ensures room { 0 < self.old.spare_spans → IsOk result }
         ensures spare_spans { IfOk result (λ verdict. self.old.spare_spans
-            ≤ self.new.spare_spans + on_done verdict (newcomers id self.old.state.spans) 0) }
+            ≤ self.new.spare_spans + on_done verdict (appended_by_set id self.old.state.spans) 0) }
         ensures spare_stays { OnErr result (self.old.spare_spans ≤ self.new.spare_spans) }
         ensures spare_units { self.old.spare_units ≤ self.new.spare_units }
 
@@ -374,7 +393,7 @@ impl SpannedText {
         ensures ends { result ≡ Done → pos 0 ≤ℤ asked.now.end }
         ensures well_formed { IsWellFormed self.now.state }
     {
-        judge_set(&self.units, &self.rows, asked, slots)
+        judge_set(&halves_of(&self.units), &self.rows, asked, slots)
     }
 
     /// Sets a span whose set is done with so many watchers loaded, and the change says so. Without memory nothing
@@ -391,7 +410,7 @@ impl SpannedText {
         ensures attached { is_attached asked.now.id self.old.state.spans ≡ true → IsOk result }
         ensures room { 0 < self.old.spare_spans → IsOk result }
         ensures spare_spans { OnOk result (self.old.spare_spans
-            ≤ self.new.spare_spans + newcomers asked.now.id self.old.state.spans) }
+            ≤ self.new.spare_spans + appended_by_set asked.now.id self.old.state.spans) }
         ensures spare_stays { OnErr result (self.old.spare_spans ≤ self.new.spare_spans) }
         ensures spare_units { self.old.spare_units ≤ self.new.spare_units }
         ensures well_formed { IsWellFormed self.new.state }
@@ -413,8 +432,8 @@ impl SpannedText {
     #[tactic(auto, using(crate::proofs::Done::by_verdict))]
     pub fn remove_span(&mut self, id: u32) -> Verdict
         ensures verdict { (slots : ℕ) → result ≡ judged self.old.state slots (Remove id) }
-        ensures state { self.new.state ≡ state_after self.old.state 0 (Remove id) }
-        ensures effect { self.new.effect ≡ effect_after self.old.state 0 (Remove id) self.old.effect }
+        ensures state { (slots : ℕ) → self.new.state ≡ state_after self.old.state slots (Remove id) }
+        ensures effect { (slots : ℕ) → self.new.effect ≡ effect_after self.old.state slots (Remove id) self.old.effect }
         ensures gap { self.new.gap ≡ self.old.gap }
         ensures spare_units { self.old.spare_units ≤ self.new.spare_units }
         ensures spare_spans { self.old.spare_spans ≤ self.new.spare_spans }

@@ -1,5 +1,5 @@
 -- What is logged of an edit, from a verdict and the number behind it, and what becomes of its text.
-use Rattle.std.proofs.Common.{◌≡◌, ◌≤◌, ◌+◌, ◌||◌, ℕ, ℤ, Bool, true, false, not, cond, List, length, refl, sym, ap, ◌∙◌}
+use Rattle.std.proofs.Common.{◌≡◌, ◌≤◌, ◌+◌, ◌||◌, ℕ, ℤ, Bool, true, false, not, cond, List, [], ◌∷◌, length, refl, sym, ap, ◌∙◌, arith}
 use Rattle.std.specs.Prelude.{int_lt}
 use Rattle.std.proofs.lemmas.Bool.{cond-true, cond-false}
 use Rattle.edit_base.specs.declared.kinds.What.{What}
@@ -12,12 +12,14 @@ use Rattle.edit_model.specs.declared.filters.Filter.{Filter}
 use Rattle.edit_model.specs.declared.steps.Step.{Step}
 use Rattle.edit_model.specs.declared.steps.Step.TheVariants as step
 use Rattle.edit_model.specs.State.{State, place, ArePlaces}
-use Rattle.edit_model.specs.Verdicts.{judged, range_lines, judged_range, goes_beyond, goes_below, spans_after}
+use Rattle.edit_model.specs.Verdicts.{judged, range_lines, judged_range, goes_beyond, goes_below, span_count_after_set}
+use Rattle.edit_model.specs.Changed.{on_done, stepped, state_after}
 use Rattle.edit_model.specs.Filtered.{filtered, lies_within, filtered_step}
 use Rattle.edit_model.specs.Log.{logged, verdict_number}
 use Rattle.edit_model.specs.Output.{edit_logged}
 use Rattle.edit_model.proofs.Tables.{none_applies, places_pass}
 use Rattle.edit_model.proofs.FullTables.{full-adds_one}
+use Rattle.edit_model.proofs.Unfiltered.{does-unfiltered}
 
 -- a verdict and the number behind it are what is logged
 pub logged-is : (state : State) (asked : Step) (verdict : Verdict) (number : ℕ) → verdict ≡ judged state 0 asked → number ≡ verdict_number state asked verdict
@@ -27,12 +29,36 @@ logged-is state asked verdict number is counts =
 
 -- the number of spans that would stand where there are too many for one more
 pub one-more : (state : State) (id : ℕ) (start end : ℤ) (flags : ℕ) (what : What) (verdict : Verdict) (count : ℕ) → length state.spans ≤ SPANS → count ≡ length state.spans
-    → verdict ≡ judged state 0 (step.Set id start end flags what) → verdict ≡ Refused SpansFull → spans_after state id ≡ count + 1
+    → verdict ≡ judged state 0 (step.Set id start end flags what) → verdict ≡ Refused SpansFull → span_count_after_set state id ≡ count + 1
 one-more state id start end flags what verdict count few counted is full =
     let e : judged state 0 (step.Set id start end flags what) ≡ Refused SpansFull = cc in
     full-adds_one state 0 id start end flags what few e ∙ ap (λ n. n + 1) (let f : length state.spans ≡ count = cc in f)
 
+-- an edit that is refused since too many spans would stand leaves the state, and would be refused again
+pub refused-again : (asked : Step) (old new : State) (verdict : Verdict) → verdict ≡ judged old 0 asked → new ≡ state_after old 0 asked
+    → verdict ≡ Refused SpansFull → judged new 0 asked ≡ Refused SpansFull
+refused-again asked old new verdict is after full =
+    let refused : judged old 0 asked ≡ Refused SpansFull = sym is ∙ full in
+    let stays : new ≡ old = after ∙ ap (λ one. on_done one (stepped old asked) old) refused in
+    ap (λ one. judged one 0 asked) stays ∙ refused
+
 -- ---- filters
+
+-- without filters an edit leaves, and logs, what it does as given
+pub unfiltered-logged : (state : State) (asked : Step) → edit_logged state asked ≡ edit_logged state (filtered_step [] state asked)
+unfiltered-logged state asked =
+    let same = does-unfiltered state asked in
+    sym (same.number (judged state 0 (filtered_step [] state asked)) ∙ ap (logged state asked) (same.verdict 0))
+
+pub unfiltered-after : (state : State) (asked : Step) → state_after state 0 asked ≡ state_after state 0 (filtered_step [] state asked)
+unfiltered-after state asked =
+    let same = does-unfiltered state asked in
+    sym (ap (λ one. on_done one (stepped state (filtered_step [] state asked)) state) (same.verdict 0)
+    ∙ ap (λ one. on_done (judged state 0 asked) one state) same.state_is)
+
+pub no_filters : (filters : List Filter) → length filters ≡ 0 → filters ≡ []
+no_filters [] none = refl
+no_filters (it ∷ filters) none = absurd (omega arith)
 
 -- the three tests of places
 judged-places : (order beyond below : Bool) → cond order (Refused Order) (cond beyond (Refused Beyond) (cond below (Refused Below) Done)) ≡ Done → not (order || beyond || below) ≡ true

@@ -3,7 +3,7 @@ use Rattle.std.proofs.Common.{◌≡◌, ℕ, ◌+◌, List, [], ◌∷◌, ◌+
 use Rattle.std.specs.List.{concat}
 use Rattle.std.proofs.lemmas.List.{append-nil}
 use Rattle.std.proofs.Math.Seq.{take-append-add}
-use Rattle.edit_model.specs.declared.settings.Settings.{Settings}
+use Rattle.edit_model.specs.Settings.{Settings}
 use Rattle.edit_model.specs.State.{State}
 use Rattle.edit_model.specs.declared.commands.Command.{Command}
 use Rattle.edit_model.specs.Printed.{end_block}
@@ -13,8 +13,8 @@ use Rattle.edit_model.specs.declared.faults.TraceFault.{TraceFault}
 use Rattle.edit_model.specs.Output.{Line, blank, command, faulty, as_line, line_of, line_run, run_lines, Played, Ending, finished, faulty_line, too_long, stopped, ended, cut_off, behind, bytes_of, command_bytes, state_behind}
 use Rattle.edit_model.proofs.Readings.{fits-read_command}
 use Rattle.replay_io.specs.Outside.{with_more}
-use Rattle.replay_cli.specs.declared.player.LineEnd.{LineEnd}
-use Rattle.replay_cli.specs.declared.player.LineEnd.TheVariants.{Next, Stop}
+use Rattle.replay_cli.specs.declared.player.LineOutcome.{LineOutcome}
+use Rattle.replay_cli.specs.declared.player.LineOutcome.TheVariants.{Next, Stop}
 use Rattle.replay_cli.specs.declared.status.Status.{Status}
 use Rattle.replay_cli.specs.declared.status.Status.TheVariants as status
 use Rattle.replay_cli.specs.Runs.{Writes}
@@ -119,7 +119,7 @@ reached-twice whole left last old now new first second = record {
 -- ---- a command that was written, or wasn't
 
 -- the run behind a command
-pub command-goes : (settings : Settings) (number : ℕ) (state : State) (line : List ℕ) (asked : Command) (after : State) (end : LineEnd) (old new : Option (List ℕ)) → command asked ≡ line_of line
+pub command-goes : (settings : Settings) (number : ℕ) (state : State) (line : List ℕ) (asked : Command) (after : State) (end : LineOutcome) (old new : Option (List ℕ)) → command asked ≡ line_of line
     → CommandGives (command_bytes settings number state asked) (state_behind settings state asked) after end old new → LineGives settings number state line after end old new
 command-goes settings number state line asked after Next old new is gives = λ close lines. record {
   pieces = command_bytes settings number state asked ∷ [];

@@ -8,11 +8,13 @@ use Rattle.std.proofs.lemmas.Bool.Decides.{nat_tests}
 use Rattle.edit_base.specs.declared.bounds.TheConstants.Limits.{SETTINGS_BYTES}
 use Rattle.edit_model.specs.declared.faults.SettingsFault.{SettingsFault}
 use Rattle.edit_model.specs.declared.faults.SettingsFault.TheVariants as setting
-use Rattle.edit_model.specs.declared.settings.Settings.{Settings}
+use Rattle.edit_model.specs.Settings as plain
+use Rattle.settings_reader.specs.declared.settings.Settings.{Settings}
+use Rattle.settings_reader.specs.Seen.{as_settings}
 use Rattle.edit_model.specs.Settings.{read_settings, read_document, toml_of}
 use Rattle.edit_model.specs.Output.{finished}
 use Rattle.replay_io.specs.declared.faults.ReadFault.TheVariants as fault
-use Rattle.replay_io.specs.declared.files.ReadEnd.TheVariants.{Whole, Over}
+use Rattle.replay_io.specs.declared.whole_files.ReadEnd.TheVariants.{Whole, Over}
 use Rattle.replay_io.specs.Outside.{Asked, begun_name, Gains, AsksOnce}
 use Rattle.replay_cli.specs.declared.status.Status.{Status}
 use Rattle.replay_cli.specs.declared.status.Status.TheVariants as status
@@ -46,7 +48,7 @@ told-whole (Err status.WriteFault) told gained bytes left gains is settles = set
 told-whole (Err status.NoMemory) told gained bytes left gains is settles = tt
 told-whole (Err status.TraceTooLong) told gained bytes left gains is settles = settles
 
-pub asks-settled : (name : List ℕ) (answer : Result Settings Status) (found : Result Settings SettingsFault) (old new : List Asked) → Settles answer found
+pub asks-settled : (name : List ℕ) (answer : Result Settings Status) (found : Result plain.Settings SettingsFault) (old new : List Asked) → Settles answer found
     → new ≡ old ++ begun_name name ∷ [] → SetUpAsks (Some name) answer old new
 asks-settled name (Ok it) found old new settles asks = asks
 asks-settled name (Err status.Done) found old new settles asks = settles
@@ -147,7 +149,7 @@ asks-stopped task settings trace status.TraceTooLong old new asks = absurd asks
 -- ---- what a run leaves
 
 -- the run stopped at the settings
-pub leaves-stopped : (task : Task) (told : Option (Result Settings SettingsFault)) (trace : Option (List ℕ)) (answer : Status) (left known : Option (List ℕ))
+pub leaves-stopped : (task : Task) (told : Option (Result plain.Settings SettingsFault)) (trace : Option (List ℕ)) (answer : Status) (left known : Option (List ℕ))
     → SetsUp (Err answer) told → Leaves task told trace answer left known known
 leaves-stopped task None trace answer left known sets = tt
 leaves-stopped task (Some (Err found)) trace status.Done left known sets = sets
@@ -170,16 +172,16 @@ leaves-stopped task (Some (Ok it)) (Some bytes) status.NoMemory left known sets 
 leaves-stopped task (Some (Ok it)) trace status.TraceTooLong left known sets = absurd sets
 
 -- the settings were read, and the trace was run or checked
-pub leaves-run : (task : Task) (told : Option (Result Settings SettingsFault)) (trace : Option (List ℕ)) (it : Settings) (answer : Status) (left old new : Option (List ℕ))
-    → SetsUp (Ok it) told → IsSet answer → IfSome trace (λ bytes. LeavesTrace it task bytes answer left old new) → Leaves task told trace answer left old new
+pub leaves-run : (task : Task) (told : Option (Result plain.Settings SettingsFault)) (trace : Option (List ℕ)) (it : Settings) (answer : Status) (left old new : Option (List ℕ))
+    → SetsUp (Ok it) told → IsSet answer → IfSome trace (λ bytes. LeavesTrace (as_settings it) task bytes answer left old new) → Leaves task told trace answer left old new
 leaves-run task None trace it answer left old new sets set leaves = tt
 leaves-run task (Some (Err found)) trace it answer left old new sets set leaves = absurd (cc)
 leaves-run task (Some (Ok other)) None it answer left old new sets set leaves = set
-leaves-run task (Some (Ok other)) (Some bytes) it answer left old new sets set leaves = let e : other ≡ it = cc in rw e leaves
+leaves-run task (Some (Ok other)) (Some bytes) it answer left old new sets set leaves = let e : other ≡ as_settings it = cc in rw e leaves
 
 -- ---- completeness
 
-complete-trace : (settings : Settings) (task : Task) (bytes : List ℕ) (answer : Status) (left old new : Option (List ℕ)) → (given settings task bytes).ending ≡ finished → LeavesTrace settings task bytes answer left old new
+complete-trace : (settings : plain.Settings) (task : Task) (bytes : List ℕ) (answer : Status) (left old new : Option (List ℕ)) → (given settings task bytes).ending ≡ finished → LeavesTrace settings task bytes answer left old new
     → (answer ≡ status.ReadFault → ⊥) → (answer ≡ status.WriteFault → ⊥) → (answer ≡ status.Done) ⊎ (answer ≡ status.NoMemory)
 complete-trace settings task bytes status.Done left old new ends leaves unread unwritten = inl refl
 complete-trace settings task bytes status.Usage left old new ends leaves unread unwritten = absurd leaves
@@ -190,7 +192,7 @@ complete-trace settings task bytes status.WriteFault left old new ends leaves un
 complete-trace settings task bytes status.NoMemory left old new ends leaves unread unwritten = inr refl
 complete-trace settings task bytes status.TraceTooLong left old new ends leaves unread unwritten = let no = leaves.1.0 in absurd (cc)
 
-pub complete : (task : Task) (told : Option (Result Settings SettingsFault)) (trace : Option (List ℕ)) (answer : Status) (left old new : Option (List ℕ)) → IsReady task told trace
+pub complete : (task : Task) (told : Option (Result plain.Settings SettingsFault)) (trace : Option (List ℕ)) (answer : Status) (left old new : Option (List ℕ)) → IsReady task told trace
     → Leaves task told trace answer left old new → (answer ≡ status.ReadFault → ⊥) → (answer ≡ status.WriteFault → ⊥) → (answer ≡ status.Done) ⊎ (answer ≡ status.NoMemory)
 complete task None trace answer left old new ready leaves unread unwritten = absurd ready
 complete task (Some (Err found)) trace answer left old new ready leaves unread unwritten = absurd ready

@@ -4,11 +4,11 @@ use Rattle.std.specs.Prelude.{nat_lt}
 use Rattle.std.proofs.lemmas.Bool.{cond-true, cond-false}
 use Rattle.std.proofs.lemmas.Bool.Decides.{nat_tests}
 use Rattle.edit_base.specs.declared.bounds.TheConstants.Limits.{TRACE_BYTES}
-use Rattle.edit_model.specs.declared.settings.Settings.{Settings}
+use Rattle.edit_model.specs.Settings.{Settings}
 use Rattle.edit_model.specs.State.{empty_state}
 use Rattle.edit_model.specs.Lines.{trace_lines, ended_lines, open_line}
 use Rattle.edit_model.specs.Output.{Played, run_lines, check_lines, ended, overrun, checked, overrun_check, within_limit, play, check}
-use Rattle.replay_io.specs.declared.files.ReadEnd.TheVariants.{Whole, Over}
+use Rattle.replay_io.specs.declared.whole_files.ReadEnd.TheVariants.{Whole, Over}
 use Rattle.replay_io.specs.Outside.{Gains, TookMore}
 use Rattle.replay_cli.specs.declared.status.Status.{Status}
 use Rattle.replay_cli.specs.declared.status.Status.TheVariants as status

@@ -1,6 +1,6 @@
 pub mod Statuses
 pub mod Runs
-pub mod Orders
+pub mod Requests
 pub mod Lines
 pub mod Steps
 pub mod SetUps

@@ -5,8 +5,7 @@ use Rattle.std.specs.List.{concat}
 use Rattle.std.specs.Str.{bytes_eq}
 use Rattle.edit_base.specs.declared.bounds.TheConstants.Limits.{TRACE_BYTES}
 use Rattle.edit_model.specs.declared.faults.SettingsFault.{SettingsFault}
-use Rattle.edit_model.specs.declared.settings.Settings.{Settings}
-use Rattle.edit_model.specs.Settings.{built_in, read_settings}
+use Rattle.edit_model.specs.Settings.{Settings, built_in, read_settings}
 use Rattle.edit_model.specs.Output.{Played, finished, faulty_line, too_long, bytes_of, play, check}
 use Rattle.replay_io.specs.Outside.{Asked, begun_name, with_more, TookMore}
 use Rattle.replay_cli.specs.declared.status.Status.{Status}
@@ -15,7 +14,7 @@ use Rattle.replay_cli.specs.declared.requests.Task.{Task}
 use Rattle.replay_cli.specs.declared.requests.Task.TheVariants.{Play, Check}
 
 -- what the words ask for: to run a trace or to read it alone, the settings' file if there is one, and the trace's file
-pub record Order : Type 0 where
+pub record Requested : Type 0 where
   pub task : Task
   pub settings : Option (List ℕ)
   pub trace : List ℕ
@@ -24,19 +23,19 @@ pub record Order : Type 0 where
 abbrev pub settings_name : List ℕ → Option (List ℕ)
 settings_name word = if bytes_eq word (codes "-") then None else Some word
 
-abbrev pub order : Task → List ℕ → List ℕ → Order
-order task settings trace = record { task = task; settings = settings_name settings; trace = trace }
+abbrev pub requested : Task → List ℕ → List ℕ → Requested
+requested task settings trace = record { task = task; settings = settings_name settings; trace = trace }
 
 abbrev pub named_task : List ℕ → Option Task
 named_task word = if bytes_eq word (codes "play") then Some Play else (if bytes_eq word (codes "check") then Some Check else None)
 
 -- the words are `play SETTINGS TRACE` or `check SETTINGS TRACE`
-abbrev pub order_of : List (List ℕ) → Option Order
-order_of [] = None
-order_of (word ∷ []) = None
-order_of (word ∷ settings ∷ []) = None
-order_of (word ∷ settings ∷ trace ∷ []) = option_map (λ task. order task settings trace) (named_task word)
-order_of (word ∷ settings ∷ trace ∷ more ∷ others) = None
+abbrev pub requested_by : List (List ℕ) → Option Requested
+requested_by [] = None
+requested_by (word ∷ []) = None
+requested_by (word ∷ settings ∷ []) = None
+requested_by (word ∷ settings ∷ trace ∷ []) = option_map (λ task. requested task settings trace) (named_task word)
+requested_by (word ∷ settings ∷ trace ∷ more ∷ others) = None
 
 -- ---- names
 
@@ -45,7 +44,7 @@ abbrev pub name_list : Option (List ℕ) → List ℕ → List (List ℕ)
 name_list None trace = trace ∷ []
 name_list (Some settings) trace = settings ∷ trace ∷ []
 
-abbrev pub names_of : Order → List (List ℕ)
+abbrev pub names_of : Requested → List (List ℕ)
 names_of it = name_list it.settings it.trace
 
 -- the first of the names were begun
@@ -68,7 +67,7 @@ abbrev pub BeganSettings : Option (List ℕ) → List Asked → List Asked → T
 BeganSettings None old new = ⊥
 BeganSettings (Some settings) old new = new ≡ old ++ begun_name settings ∷ []
 
-abbrev pub AsksFor : Option Order → Status → List Asked → List Asked → Type 0
+abbrev pub AsksFor : Option Requested → Status → List Asked → List Asked → Type 0
 AsksFor None answer old new = new ≡ old
 AsksFor (Some it) status.Done old new = new ≡ old ++ map begun_name (names_of it)
 AsksFor (Some it) status.Usage old new = ⊥
@@ -149,7 +148,7 @@ told_settings None stands = Some (Ok built_in)
 told_settings (Some name) stands = option_map read_settings (stands name)
 
 -- what words ask for, where they ask for something
-abbrev pub LeavesFor : Option Order → (List ℕ → Option (List ℕ)) → Status → Option (List ℕ) → Option (List ℕ) → Option (List ℕ) → Type 0
+abbrev pub LeavesFor : Option Requested → (List ℕ → Option (List ℕ)) → Status → Option (List ℕ) → Option (List ℕ) → Option (List ℕ) → Type 0
 LeavesFor None stands answer left old new = new ≡ old
 LeavesFor (Some it) stands answer left old new = Leaves it.task (told_settings it.settings stands) (stands it.trace) answer left old new
 
@@ -160,6 +159,6 @@ IsReady task (Some (Ok settings)) None = ⊥
 IsReady task (Some (Ok settings)) (Some trace) = (given settings task trace).ending ≡ finished
 
 -- the settings have a reading and every line that isn't blank is a command, the trace being within its limit
-abbrev pub IsComplete : Option Order → (List ℕ → Option (List ℕ)) → Type 0
+abbrev pub IsComplete : Option Requested → (List ℕ → Option (List ℕ)) → Type 0
 IsComplete None stands = ⊥
 IsComplete (Some it) stands = IsReady it.task (told_settings it.settings stands) (stands it.trace)

@@ -1,7 +1,9 @@
 -- What reading the settings gives, and what running a trace asks for.
 use Rattle.std.specs.Prelude.{ℕ, ◌≡◌, ◌⊎◌, ◌++◌, Bool, List, [], ◌∷◌, map, Option, Some, None, IfSome, Result, Ok, Err}
 use Rattle.edit_model.specs.declared.faults.SettingsFault.{SettingsFault}
-use Rattle.edit_model.specs.declared.settings.Settings.{Settings}
+use Rattle.edit_model.specs.Settings as plain
+use Rattle.settings_reader.specs.declared.settings.Settings.{Settings}
+use Rattle.settings_reader.specs.Seen.{as_settings}
 use Rattle.replay_io.specs.Outside.{Asked, begun_name}
 use Rattle.replay_cli.specs.declared.status.Status.{Status}
 use Rattle.replay_cli.specs.declared.status.Status.TheVariants as status
@@ -14,8 +16,8 @@ use Rattle.replay_cli.specs.Steps.{close_of, close_check}
 use Rattle.replay_cli.specs.Runs.{BeganSome, AskedNext}
 
 -- the settings that were read, or why a run stops before its trace
-abbrev pub SetsUp : Result Settings Status → Option (Result Settings SettingsFault) → Type 0
-SetsUp (Ok settings) told = IfSome told (λ found. found ≡ Ok settings)
+abbrev pub SetsUp : Result Settings Status → Option (Result plain.Settings SettingsFault) → Type 0
+SetsUp (Ok settings) told = IfSome told (λ found. found ≡ Ok (as_settings settings))
 SetsUp (Err status.Done) told = ⊥
 SetsUp (Err status.Usage) told = ⊥
 SetsUp (Err (status.TraceFault line kind)) told = ⊥
@@ -53,8 +55,8 @@ TraceAsks trace status.NoMemory old new = (new ≡ old) ⊎ (new ≡ old ++ begu
 TraceAsks trace status.TraceTooLong old new = new ≡ old ++ begun_name trace ∷ []
 
 -- the settings of some bytes, or their fault; want of memory is free
-abbrev pub Settles : Result Settings Status → Result Settings SettingsFault → Type 0
-Settles (Ok settings) found = found ≡ Ok settings
+abbrev pub Settles : Result Settings Status → Result plain.Settings SettingsFault → Type 0
+Settles (Ok settings) found = found ≡ Ok (as_settings settings)
 Settles (Err status.Done) found = ⊥
 Settles (Err status.Usage) found = ⊥
 Settles (Err (status.TraceFault line kind)) found = ⊥
@@ -65,6 +67,6 @@ Settles (Err status.NoMemory) found = Unit {0}
 Settles (Err status.TraceTooLong) found = ⊥
 
 -- what the lines of a trace give under a task, or those of its front where more was cut off
-abbrev pub given_lines : Settings → Task → Bool → List ℕ → Played
+abbrev pub given_lines : plain.Settings → Task → Bool → List ℕ → Played
 given_lines settings Play is_cut bytes = run_lines settings (close_of is_cut bytes) 1 empty_state (lines_in is_cut bytes)
 given_lines settings Check is_cut bytes = check_lines (close_check is_cut bytes) 1 0 (lines_in is_cut bytes)

@@ -1,13 +1,13 @@
 -- One line of a run.
 use Rattle.std.specs.Prelude.{ℕ, ◌≡◌, ◌+◌, ◌++◌, Bool, true, false, List, ◌∷◌, take, Option, Result, Ok, Err}
 use Rattle.std.specs.List.{concat}
-use Rattle.edit_model.specs.declared.settings.Settings.{Settings}
+use Rattle.edit_model.specs.Settings.{Settings}
 use Rattle.edit_model.specs.State.{State}
 use Rattle.edit_model.specs.Output.{Played, run_lines, check_lines, ended, overrun, checked, overrun_check}
 use Rattle.edit_model.specs.Lines.{open_line}
 use Rattle.replay_io.specs.Outside.{with_more}
-use Rattle.replay_cli.specs.declared.player.LineEnd.{LineEnd}
-use Rattle.replay_cli.specs.declared.player.LineEnd.TheVariants.{Next, Stop}
+use Rattle.replay_cli.specs.declared.player.LineOutcome.{LineOutcome}
+use Rattle.replay_cli.specs.declared.player.LineOutcome.TheVariants.{Next, Stop}
 use Rattle.replay_cli.specs.declared.status.Status.{Status}
 use Rattle.replay_cli.specs.declared.status.Status.TheVariants as status
 use Rattle.replay_cli.specs.Runs.{Writes}
@@ -33,14 +33,14 @@ pub record Reached (whole left : Played) (old now : Option (List ℕ)) : Type 0 
   pub written : now ≡ with_more old (concat pieces)
 
 -- whatever lines follow a line, and whatever stands behind them: the run goes on behind it, or has ended there
-abbrev pub LineGives : Settings → ℕ → State → List ℕ → State → LineEnd → Option (List ℕ) → Option (List ℕ) → Type 0
+abbrev pub LineGives : Settings → ℕ → State → List ℕ → State → LineOutcome → Option (List ℕ) → Option (List ℕ) → Type 0
 LineGives settings number state line after Next old new = (close : ℕ → State → Played) (lines : List (List ℕ)) →
     Reached (run_lines settings close number state (line ∷ lines)) (run_lines settings close (number + 1) after lines) old new
 LineGives settings number state line after (Stop answer) old new = (close : ℕ → State → Played) (lines : List (List ℕ)) →
     Writes (run_lines settings close number state (line ∷ lines)) answer old new
 
 -- a command's bytes were written, and the text is the one behind it, or the run has ended with a prefix of them
-abbrev pub CommandGives : List ℕ → State → State → LineEnd → Option (List ℕ) → Option (List ℕ) → Type 0
+abbrev pub CommandGives : List ℕ → State → State → LineOutcome → Option (List ℕ) → Option (List ℕ) → Type 0
 CommandGives bytes behind after Next old new = (after ≡ behind) × (new ≡ with_more old bytes)
 CommandGives bytes behind after (Stop status.Done) old new = ⊥
 CommandGives bytes behind after (Stop status.Usage) old new = ⊥

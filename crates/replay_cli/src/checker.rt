@@ -24,6 +24,7 @@ pub fn check_trace<K: Sink>(alloc: Global, trace: &[u8], is_cut: bool, sink: &mu
     ensures whole { result ≡ Status.Done → is_cut ≡ false }
     ensures cut { result ≡ Status.TraceTooLong → is_cut ≡ true }
     ensures failed { result ≡ Status.WriteFault → Rose (K.faults sink.old) (K.faults sink.new) }
+    ensures quiet { result ≢ Status.WriteFault → K.faults sink.new ≡ K.faults sink.old }
     ensures counts { K.faults sink.old ≤ K.faults sink.new }
 {
     let mut rest = trace;
@@ -65,6 +66,7 @@ fn write_count<K: Sink>(alloc: Global, count: u32, sink: &mut K) -> Status
     ensures writes { (number : ℕ) → Writes (checked number count) result (K.written sink.old) (K.written sink.new) }
     ensures uncut { result ≢ Status.TraceTooLong }
     ensures failed { result ≡ Status.WriteFault → Rose (K.faults sink.old) (K.faults sink.new) }
+    ensures quiet { result ≢ Status.WriteFault → K.faults sink.new ≡ K.faults sink.old }
     ensures counts { K.faults sink.old ≤ K.faults sink.new }
 {
     let mut out = Vec::new(alloc);

@@ -1,6 +1,7 @@
 //! Commands, run over a text, and what they print.
 #![tactic(auto, using(crate::proofs::Appending::appending))]
 
+ghost use Rattle.settings_reader.specs.Seen.{as_settings};
 ghost use Rattle.std.specs.Prelude.{◌≡◌, ◌≤◌, ◌<◌, ◌^◌, ◌⊎◌, ◌++◌, length, IfOk, OnOk, OnErr};
 ghost use Rattle.std.specs.List.{flat_map};
 ghost use Rattle.edit_base.specs.declared.rows.Pick.TheVariants.{All};
@@ -11,11 +12,11 @@ ghost use Rattle.edit_model.specs.declared.steps.Step.TheVariants.{Replace, Set,
 ghost use Rattle.edit_model.specs.State.{State, place};
 ghost use Rattle.edit_model.specs.Replaced.{spliced_length};
 ghost use Rattle.edit_model.specs.Over.{over, next_edge};
-ghost use Rattle.edit_model.specs.Verdicts.{judged, judged_range, spans_then};
+ghost use Rattle.edit_model.specs.Verdicts.{judged, judged_range, span_count_then};
 ghost use Rattle.edit_model.specs.Brought.{IsBrought};
 ghost use Rattle.edit_model.specs.Filtered.{filtered_step};
 ghost use Rattle.edit_model.specs.Changed.{state_after};
-ghost use Rattle.replace_engine.specs.Rows.{spans_in};
+ghost use Rattle.edit_model.specs.Rows.{spans_in};
 ghost use Rattle.edit_model.specs.Log.{length_of, span_count_of, verdict_number, range_logged, entry_of};
 ghost use Rattle.edit_model.specs.Reading.{IsFitting};
 ghost use Rattle.edit_model.specs.Printed.{entry_line, span_line, found_lines, edge_line, reply_line, end_block};
@@ -24,51 +25,40 @@ ghost use Rattle.replay_cli.specs.Appended.{Extends};
 
 use crate::printing::{print_entry, print_header, print_reply, print_span, print_units};
 use edit_base::{Incoming, NoMemory, Pick, Refusal, SpanRow, Steps, Verdict, What};
-use edit_model::{Command, Filter, LogEntry, Logged, Reply, Settings};
+use edit_model::{Command, Filter, LogEntry, Logged, Reply};
 use input_filters::filter_all;
 use replace_engine::SpannedText;
+use settings_reader::Settings;
 use std::alloc::Global;
 use std::sync::ledger::Ledger;
+use trace_words::op_name;
 
-/// Room that every command reuses: for its bytes, and for the rows that a query finds.
+/// Lists that every command reuses: for its bytes, and for the rows that a query finds.
 #[derive(Drop)]
-pub struct Room {
+pub struct Buffers {
     pub out: Vec<u8>,
     pub rows: Vec<SpanRow>,
 }
 
-/// Runs a command under these settings: its bytes come behind what is in `room.out`, and the text is the one behind it.
-/// Without memory what was in `room.out` is still its prefix, and the text is the one before the command or behind it.
+/// Runs a command under these settings: its bytes come behind what is in `buffers.out`, and the text is the one behind it.
+/// Without memory what was in `buffers.out` is still its prefix, and the text is the one before the command or behind it.
 pub fn run_command<L: Ledger>(
     alloc: Global,
     settings: &Settings,
     number: u32,
     command: &Command,
     text: &mut SpannedText,
-    room: &mut Room,
+    buffers: &mut Buffers,
     steps: &mut Steps<L>,
 ) -> Result<(), NoMemory>
     requires { IsFitting command.now }
-    ensures bytes { OnOk result (room.new.out.items ≡ room.old.out.items ++ command_bytes settings.now number text.old.state command.now) }
-    ensures state { OnOk result (text.new.state ≡ state_behind settings.now text.old.state command.now) }
-    ensures err { OnErr result (Extends room.old.out.items room.new.out.items) }
-    ensures kept { OnErr result ((text.new.state ≡ text.old.state) ⊎ (text.new.state ≡ state_behind settings.now text.old.state command.now)) }
+    ensures bytes { OnOk result (buffers.new.out.items ≡ buffers.old.out.items ++ command_bytes (as_settings settings.now) number text.old.state command.now) }
+    ensures state { OnOk result (text.new.state ≡ state_behind (as_settings settings.now) text.old.state command.now) }
+    ensures err { OnErr result (Extends buffers.old.out.items buffers.new.out.items) }
+    ensures kept { OnErr result ((text.new.state ≡ text.old.state) ⊎ (text.new.state ≡ state_behind (as_settings settings.now) text.old.state command.now)) }
 {
-    print_header(number, operation(command), &mut room.out)?;
-    print_command(alloc, settings, command, text, room, steps)
-}
-
-// The operation's name.
-fn operation(command: &Command) -> &'static str
-    ensures { result.now ≡ name_of command.now }
-{
-    match command {
-        Command::Replace { .. } => "replace",
-        Command::SetSpan { .. } => "set_span",
-        Command::RemoveSpan { .. } => "remove_span",
-        Command::SpansOver { .. } => "spans_over",
-        Command::NextEdge { .. } => "next_edge",
-    }
+    print_header(number, op_name(command.op()), &mut buffers.out)?;
+    print_command(alloc, settings, command, text, buffers, steps)
 }
 
 // Runs a command and prints what stands behind its header.
@@ -78,14 +68,14 @@ fn print_command<L: Ledger>(
     settings: &Settings,
     command: &Command,
     text: &mut SpannedText,
-    room: &mut Room,
+    buffers: &mut Buffers,
     steps: &mut Steps<L>,
 ) -> Result<(), NoMemory>
     requires { IsFitting command.now }
-    ensures bytes { OnOk result (room.new.out.items ≡ room.old.out.items ++ lines_of settings.now text.old.state command.now) }
-    ensures state { OnOk result (text.new.state ≡ state_behind settings.now text.old.state command.now) }
-    ensures err { OnErr result (Extends room.old.out.items room.new.out.items) }
-    ensures kept { OnErr result ((text.new.state ≡ text.old.state) ⊎ (text.new.state ≡ state_behind settings.now text.old.state command.now)) }
+    ensures bytes { OnOk result (buffers.new.out.items ≡ buffers.old.out.items ++ lines_of (as_settings settings.now) text.old.state command.now) }
+    ensures state { OnOk result (text.new.state ≡ state_behind (as_settings settings.now) text.old.state command.now) }
+    ensures err { OnErr result (Extends buffers.old.out.items buffers.new.out.items) }
+    ensures kept { OnErr result ((text.new.state ≡ text.old.state) ⊎ (text.new.state ≡ state_behind (as_settings settings.now) text.old.state command.now)) }
 {
     match command {
         Command::Replace {
@@ -101,7 +91,7 @@ fn print_command<L: Ledger>(
                 *end,
                 incoming,
                 text,
-                &mut room.out,
+                &mut buffers.out,
                 steps,
             )
         }
@@ -111,11 +101,20 @@ fn print_command<L: Ledger>(
             end,
             flags,
             what,
-        } => print_set(*id, *start, *end, *flags, *what, text, &mut room.out, steps),
-        Command::RemoveSpan { id } => print_remove(*id, text, &mut room.out),
-        Command::SpansOver { start, end } => print_spans_over(*start, *end, text, room, steps),
+        } => print_set(
+            *id,
+            *start,
+            *end,
+            *flags,
+            *what,
+            text,
+            &mut buffers.out,
+            steps,
+        ),
+        Command::RemoveSpan { id } => print_remove(*id, text, &mut buffers.out),
+        Command::SpansOver { start, end } => print_spans_over(*start, *end, text, buffers, steps),
         Command::NextEdge { start, limit } => {
-            print_next_edge(*start, *limit, text, &mut room.out)
+            print_next_edge(*start, *limit, text, &mut buffers.out)
         }
     }
 }
@@ -153,7 +152,30 @@ fn print_replace<L: Ledger>(
 }
 
 // Replaces by what the filters make of the text, where the places lie in the text, and answers what is logged of it.
+// Without filters nothing is copied.
 fn replace<L: Ledger>(
+    alloc: Global,
+    filters: &[Filter],
+    start: i32,
+    end: i32,
+    incoming: &Incoming,
+    text: &mut SpannedText,
+    steps: &mut Steps<L>,
+) -> Result<Logged, NoMemory>
+    requires { IsBrought incoming.now }
+    ensures logged { IfOk result (λ logged. logged ≡ edit_logged text.old.state (filtered_step filters.now text.old.state (Replace start end incoming.now))) }
+    ensures state { OnOk result (text.new.state ≡ state_after text.old.state 0 (filtered_step filters.now text.old.state (Replace start end incoming.now))) }
+    ensures err { OnErr result (text.new.state ≡ text.old.state) }
+{
+    if filters.is_empty() {
+        replace_filtered(start, end, incoming, text, steps)
+    } else {
+        replace_through(alloc, filters, start, end, incoming, text, steps)
+    }
+}
+
+// The same through some filters.
+fn replace_through<L: Ledger>(
     alloc: Global,
     filters: &[Filter],
     start: i32,
@@ -198,13 +220,13 @@ fn replace_filtered<L: Ledger>(
     let length = text.len();
     let verdict = text.replace(start, end, incoming, steps)?;
     let after = length_after(length, start, end, incoming.units.len() as u32);
-    let spans = spans_then(verdict, start, end, incoming, text);
+    let spans = span_count_then(verdict, start, end, incoming, text);
     let number = number_behind(verdict, length, after, spans);
     Ok(Logged { verdict, number })
 }
 
 // How many spans would stand, where a replacement is refused since they are too many.
-fn spans_then(
+fn span_count_then(
     verdict: Verdict,
     start: i32,
     end: i32,
@@ -213,10 +235,10 @@ fn spans_then(
 ) -> u32
     requires brought { IsBrought incoming.now }
     requires full { verdict ≡ Refused SpansFull → judged text.now.state 0 (Replace start end incoming.now) ≡ Refused SpansFull }
-    ensures { verdict ≡ Refused SpansFull → result ≡ spans_then text.now.state start end incoming.now }
+    ensures { verdict ≡ Refused SpansFull → result ≡ span_count_then text.now.state start end incoming.now }
 {
     match verdict {
-        Verdict::Refused(Refusal::SpansFull) => text.spans_then(start, end, incoming),
+        Verdict::Refused(Refusal::SpansFull) => text.span_count_then(start, end, incoming),
         _ => 0,
     }
 }
@@ -302,9 +324,14 @@ fn remove_span(id: u32, text: &mut SpannedText) -> Logged
 
 // The number that is printed behind an edit's verdict: of the present length, the length that would stand, and the
 // number of spans that would stand, the one that its refusal asks for.
-fn number_behind(verdict: Verdict, length_before: u32, length_then: u32, spans_then: u32) -> u32
+fn number_behind(
+    verdict: Verdict,
+    length_before: u32,
+    length_then: u32,
+    span_count_then: u32,
+) -> u32
     ensures { (state : State) (asked : Step) → length state.units ≡ length_before → length_of state asked ≡ length_then
-        → (verdict ≡ Refused SpansFull → span_count_of state asked ≡ spans_then) → result ≡ verdict_number state asked verdict }
+        → (verdict ≡ Refused SpansFull → span_count_of state asked ≡ span_count_then) → result ≡ verdict_number state asked verdict }
 {
     match verdict {
         Verdict::Done => 0,
@@ -322,7 +349,7 @@ fn number_behind(verdict: Verdict, length_before: u32, length_then: u32, spans_t
             Refusal::ParagraphStart => 0,
             Refusal::ParagraphEnd => 0,
             Refusal::TooLong => length_then,
-            Refusal::SpansFull => spans_then,
+            Refusal::SpansFull => span_count_then,
             Refusal::Flags => 0,
             Refusal::NotInBatch => 0,
             Refusal::NestingFull => 0,
@@ -354,25 +381,25 @@ fn print_spans_over<L: Ledger>(
     start: i32,
     end: i32,
     text: &SpannedText,
-    room: &mut Room,
+    buffers: &mut Buffers,
     steps: &mut Steps<L>,
 ) -> Result<(), NoMemory>
-    ensures ok { OnOk result (room.new.out.items ≡ room.old.out.items ++ answer_lines text.now.state (judged_range text.now.state start end)
+    ensures ok { OnOk result (buffers.new.out.items ≡ buffers.old.out.items ++ answer_lines text.now.state (judged_range text.now.state start end)
         (found_lines (over (place start) (place end) All text.now.state.spans))) }
-    ensures err { OnErr result (Extends room.old.out.items room.new.out.items) }
+    ensures err { OnErr result (Extends buffers.old.out.items buffers.new.out.items) }
 {
     let verdict = judge_range(start, end, text);
     let Verdict::Done = verdict else {
-        return print_refused(verdict, text, &mut room.out);
+        return print_refused(verdict, text, &mut buffers.out);
     };
     text.spans_over(
         place_of(start),
         place_of(end),
         Pick::All,
-        &mut room.rows,
+        &mut buffers.rows,
         steps,
     )?;
-    print_found(room.rows.as_slice(), &mut room.out)
+    print_found(buffers.rows.as_slice(), &mut buffers.out)
 }
 
 // Prints the next edge behind a place, or the refusal of the range.

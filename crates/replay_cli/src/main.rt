@@ -1,6 +1,11 @@
 //! Replays a recorded trace of edits over an editable text, and prints what each command did and the text at the end.
 #![tactic(auto)]
 
+ghost use Rattle.std.specs.Prelude.{◌≡◌, ◌≢◌};
+ghost use Rattle.std.specs.IoError.{error_kind};
+ghost use Rattle.std.specs.Process.{exit_status};
+ghost use Rattle.replay_cli.specs.Statuses.{code_of};
+
 mod checker;
 mod commands;
 mod lines;
@@ -11,15 +16,14 @@ mod run;
 mod status;
 
 pub use checker::check_trace;
-pub use commands::{Room, print_end, run_command};
+pub use commands::{Buffers, print_end, run_command};
 pub use lines::{TraceLine, is_blank_line, next_line, read_line};
-pub use player::{LineEnd, play_lines, run_line, stop_at};
+pub use player::{LineOutcome, play_lines, run_line, stop_at};
 pub use printing::{print_entry, print_header, print_units};
 use replay_io::{FileStore, OutSink};
 pub use requests::{Request, Task, request_of};
 pub use run::run;
 pub use status::Status;
-use std::alloc::AllocError;
 use std::env;
 use std::io::{self, ErrorKind};
 use std::process::ExitCode;
@@ -27,15 +31,14 @@ use std::process::ExitCode;
 fn main(rt: HostRuntime) -> ExitCode {
     let status = match words(&rt) {
         Ok(words) => replay(&rt, words.as_slice()),
-        Err(error) if error.kind() == ErrorKind::OutOfMemory => Status::NoMemory,
-        Err(_) => Status::Usage,
+        Err(error) => unread_words(&error),
     };
     let text = status.text();
     if !text.is_empty() {
         let said = rt.eprintln(text.as_str());
         drop(said);
     }
-    ExitCode::from(status.code())
+    exit_of(&status)
 }
 
 // The words behind the program's own name. One that is no text makes all of them unreadable.
@@ -43,19 +46,30 @@ fn words(rt: &HostRuntime) -> io::Result<Vec<String>> {
     Ok(env::args(rt)?.skip(1).collect(rt.alloc())?)
 }
 
-// The program over the real files and standard output.
-fn replay(rt: &HostRuntime, words: &[String]) -> Status {
-    match outside(rt) {
-        Ok((mut files, mut output)) => run(rt.alloc(), words, &mut files, &mut output),
-        Err(_) => Status::NoMemory,
+// How a run ends whose words can't be read.
+fn unread_words(error: &io::Error) -> Status
+    ensures memory { (error_kind error.now ≡ ErrorKind.OutOfMemory) → result ≡ Status.NoMemory }
+    ensures usage { (error_kind error.now ≢ ErrorKind.OutOfMemory) → result ≡ Status.Usage }
+{
+    if error.kind() == ErrorKind::OutOfMemory {
+        Status::NoMemory
+    } else {
+        Status::Usage
     }
 }
 
-// The files and the standard output of the system.
-fn outside(rt: &HostRuntime) -> Result<(FileStore<HostRuntime>, OutSink<HostRuntime>), AllocError> {
-    let files = FileStore::new(rt.clone()?, rt.alloc());
-    let output = OutSink::new(rt.clone()?);
-    Ok((files, output))
+// The program over the real files and standard output.
+fn replay(rt: &HostRuntime, words: &[String]) -> Status {
+    let mut files = FileStore::new(rt, rt.alloc());
+    let mut output = OutSink::new(io::writer(rt));
+    run(rt.alloc(), words, &mut files, &mut output)
+}
+
+// The program's exit code.
+fn exit_of(status: &Status) -> ExitCode
+    ensures { exit_status result ≡ code_of status.now }
+{
+    ExitCode::from(status.code())
 }
 
 #[cfg(test)]

@@ -1,5 +1,6 @@
 //! The lines of a trace, run one by one over a text.
 
+ghost use Rattle.settings_reader.specs.Seen.{as_settings};
 ghost use Rattle.std.specs.Prelude.{◌≡◌, ◌≢◌, ◌≤◌, true, false, List, Option, length, ℕ};
 ghost use Rattle.edit_model.specs.Reading.{IsFitting};
 ghost use Rattle.edit_model.specs.Output.{command_bytes, state_behind, run_lines, ended, stopped, cut_off, too_long};
@@ -8,19 +9,20 @@ ghost use Rattle.replay_cli.specs.Runs.{Writes};
 ghost use Rattle.replay_cli.specs.Steps.{LineGives, CommandGives, close_of};
 ghost use Rattle.replay_cli.specs.Lines.{lines_in};
 
-use crate::commands::{Room, print_end, run_command};
+use crate::commands::{Buffers, print_end, run_command};
 use crate::lines::{TraceLine, next_line, read_line};
 use crate::status::Status;
 use edit_base::{Limits, NoMemory, Steps};
-use edit_model::{Command, Settings, TraceFault};
+use edit_model::{Command, TraceFault};
 use replace_engine::SpannedText;
 use replay_io::{Sink, write_all_of};
+use settings_reader::Settings;
 use std::alloc::Global;
 use std::sync::ledger::Ledger;
 
 /// What became of a line.
 #[derive(Clone, Copy, Debug, PartialEq, Eq)]
-pub enum LineEnd {
+pub enum LineOutcome {
     /// The run goes on.
     Next,
     /// The run has ended.
@@ -39,23 +41,33 @@ pub fn play_lines<K: Sink, L: Ledger>(
     steps: &mut Steps<L>,
 ) -> Status
     requires { length trace.now ≤ 268435456 }
-    ensures writes { Writes (run_lines settings.now (close_of is_cut trace.now) 1 text.old.state (lines_in is_cut trace.now)) result
+    ensures writes { Writes (run_lines (as_settings settings.now) (close_of is_cut trace.now) 1 text.old.state (lines_in is_cut trace.now)) result
         (K.written sink.old) (K.written sink.new) }
     ensures whole { result ≡ Status.Done → is_cut ≡ false }
     ensures cut { result ≡ Status.TraceTooLong → is_cut ≡ true }
     ensures failed { result ≡ Status.WriteFault → Rose (K.faults sink.old) (K.faults sink.new) }
+    ensures quiet { result ≢ Status.WriteFault → K.faults sink.new ≡ K.faults sink.old }
     ensures counts { K.faults sink.old ≤ K.faults sink.new }
 {
-    let mut room = Room {
+    let mut buffers = Buffers {
         out: Vec::new(alloc),
         rows: Vec::new(alloc),
     };
     let mut rest = trace;
     let mut number = 1u32;
     while let Some((line, others)) = next_line(rest, is_cut) {
-        match run_line(alloc, settings, number, line, text, &mut room, sink, steps) {
-            LineEnd::Next => (),
-            LineEnd::Stop(status) => return status,
+        match run_line(
+            alloc,
+            settings,
+            number,
+            line,
+            text,
+            &mut buffers,
+            sink,
+            steps,
+        ) {
+            LineOutcome::Next => (),
+            LineOutcome::Stop(status) => return status,
         }
         rest = others;
         number += 1;
@@ -63,7 +75,7 @@ pub fn play_lines<K: Sink, L: Ledger>(
     if is_cut {
         stop_at(number, rest)
     } else {
-        finish(text, &mut room.out, sink)
+        finish(text, &mut buffers.out, sink)
     }
 }
 
@@ -91,22 +103,25 @@ pub fn run_line<K: Sink, L: Ledger>(
     number: u32,
     line: &[u8],
     text: &mut SpannedText,
-    room: &mut Room,
+    buffers: &mut Buffers,
     sink: &mut K,
     steps: &mut Steps<L>,
-) -> LineEnd
-    ensures gives { LineGives settings.now number text.old.state line.now text.new.state result (K.written sink.old) (K.written sink.new) }
-    ensures undone { result ≢ LineEnd.Stop Status.Done }
-    ensures uncut { result ≢ LineEnd.Stop Status.TraceTooLong }
-    ensures failed { result ≡ LineEnd.Stop Status.WriteFault → Rose (K.faults sink.old) (K.faults sink.new) }
+) -> LineOutcome
+    ensures gives { LineGives (as_settings settings.now) number text.old.state line.now text.new.state result (K.written sink.old) (K.written sink.new) }
+    ensures undone { result ≢ LineOutcome.Stop Status.Done }
+    ensures uncut { result ≢ LineOutcome.Stop Status.TraceTooLong }
+    ensures failed { result ≡ LineOutcome.Stop Status.WriteFault → Rose (K.faults sink.old) (K.faults sink.new) }
+    ensures quiet { result ≢ LineOutcome.Stop Status.WriteFault → K.faults sink.new ≡ K.faults sink.old }
     ensures counts { K.faults sink.old ≤ K.faults sink.new }
 {
     match read_line(alloc, line) {
-        Err(NoMemory) => LineEnd::Stop(Status::NoMemory),
-        Ok(TraceLine::Blank) => LineEnd::Next,
-        Ok(TraceLine::Faulty(kind)) => LineEnd::Stop(Status::TraceFault { line: number, kind }),
+        Err(NoMemory) => LineOutcome::Stop(Status::NoMemory),
+        Ok(TraceLine::Blank) => LineOutcome::Next,
+        Ok(TraceLine::Faulty(kind)) => LineOutcome::Stop(Status::TraceFault { line: number, kind }),
         Ok(TraceLine::Command(command)) => {
-            write_command(alloc, settings, number, &command, text, room, sink, steps)
+            write_command(
+                alloc, settings, number, &command, text, buffers, sink, steps,
+            )
         }
     }
 }
@@ -118,24 +133,25 @@ fn write_command<K: Sink, L: Ledger>(
     number: u32,
     command: &Command,
     text: &mut SpannedText,
-    room: &mut Room,
+    buffers: &mut Buffers,
     sink: &mut K,
     steps: &mut Steps<L>,
-) -> LineEnd
+) -> LineOutcome
     requires { IsFitting command.now }
-    ensures gives { CommandGives (command_bytes settings.now number text.old.state command.now) (state_behind settings.now text.old.state command.now)
+    ensures gives { CommandGives (command_bytes (as_settings settings.now) number text.old.state command.now) (state_behind (as_settings settings.now) text.old.state command.now)
         text.new.state result (K.written sink.old) (K.written sink.new) }
-    ensures undone { result ≢ LineEnd.Stop Status.Done }
-    ensures uncut { result ≢ LineEnd.Stop Status.TraceTooLong }
-    ensures failed { result ≡ LineEnd.Stop Status.WriteFault → Rose (K.faults sink.old) (K.faults sink.new) }
+    ensures undone { result ≢ LineOutcome.Stop Status.Done }
+    ensures uncut { result ≢ LineOutcome.Stop Status.TraceTooLong }
+    ensures failed { result ≡ LineOutcome.Stop Status.WriteFault → Rose (K.faults sink.old) (K.faults sink.new) }
+    ensures quiet { result ≢ LineOutcome.Stop Status.WriteFault → K.faults sink.new ≡ K.faults sink.old }
     ensures counts { K.faults sink.old ≤ K.faults sink.new }
 {
-    room.out.clear();
-    match run_command(alloc, settings, number, command, text, room, steps) {
-        Err(NoMemory) => LineEnd::Stop(Status::NoMemory),
-        Ok(()) => match write_all_of(sink, room.out.as_slice()) {
-            Err(_) => LineEnd::Stop(Status::WriteFault),
-            Ok(()) => LineEnd::Next,
+    buffers.out.clear();
+    match run_command(alloc, settings, number, command, text, buffers, steps) {
+        Err(NoMemory) => LineOutcome::Stop(Status::NoMemory),
+        Ok(()) => match write_all_of(sink, buffers.out.as_slice()) {
+            Err(_) => LineOutcome::Stop(Status::WriteFault),
+            Ok(()) => LineOutcome::Next,
         },
     }
 }
@@ -145,6 +161,7 @@ fn finish<K: Sink>(text: &SpannedText, out: &mut Vec<u8>, sink: &mut K) -> Statu
     ensures writes { (number : ℕ) → Writes (ended number text.now.state) result (K.written sink.old) (K.written sink.new) }
     ensures uncut { result ≢ Status.TraceTooLong }
     ensures failed { result ≡ Status.WriteFault → Rose (K.faults sink.old) (K.faults sink.new) }
+    ensures quiet { result ≢ Status.WriteFault → K.faults sink.new ≡ K.faults sink.old }
     ensures counts { K.faults sink.old ≤ K.faults sink.new }
 {
     out.clear();

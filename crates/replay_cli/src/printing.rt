@@ -5,7 +5,7 @@
 ghost use Rattle.std.specs.Prelude.{ℕ, ◌≡◌, List, ◌<◌, ◌++◌, OnOk, OnErr, codes, decimal};
 ghost use Rattle.std.specs.List.{flat_map};
 ghost use Rattle.std.specs.Fmt.{signed_decimal};
-ghost use Rattle.edit_model.specs.Changed.{span_of};
+ghost use Rattle.edit_model.specs.Rows.{span_of};
 ghost use Rattle.edit_model.specs.Printed.{spaced, line_end, hex_digit, escaped, unit_text, text_line, refusal_name, has_number, refusal_text, logged_text, header_line, entry_line, reply_text, what_text, span_line};
 ghost use Rattle.replay_cli.specs.Appended.{Extends};
 

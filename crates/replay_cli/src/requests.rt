@@ -2,8 +2,8 @@
 
 ghost use Rattle.std.specs.Prelude.{◌≡◌, map, string_bytes};
 ghost use Rattle.std.specs.Option.{option_map};
-ghost use Rattle.replay_cli.specs.Orders.{order_seen};
-ghost use Rattle.replay_cli.specs.Runs.{order_of, named_task, settings_name};
+ghost use Rattle.replay_cli.specs.Requests.{request_seen};
+ghost use Rattle.replay_cli.specs.Runs.{requested_by, named_task, settings_name};
 
 /// What is done with a trace.
 #[derive(Clone, Copy, Debug, PartialEq, Eq)]
@@ -25,7 +25,7 @@ pub struct Request<'a> {
 
 /// What the words ask for, where they have the form `play SETTINGS TRACE` or `check SETTINGS TRACE`.
 pub fn request_of(words: &[String]) -> Option<Request<'_>>
-    ensures { option_map order_seen result ≡ order_of (map string_bytes words.now) }
+    ensures { option_map request_seen result ≡ requested_by (map string_bytes words.now) }
 {
     let [word, settings, trace] = words else {
         return None;

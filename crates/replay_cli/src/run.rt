@@ -1,9 +1,10 @@
 //! The top call: from words, a store and a sink to a status.
 
-ghost use Rattle.std.specs.Prelude.{◌≡◌, ◌≤◌, ◌<◌, ◌⊎◌, ◌↔◌, map, true, false, length, List, ℕ, Option, Some, None, IfSome, string_bytes};
+ghost use Rattle.settings_reader.specs.Seen.{as_settings};
+ghost use Rattle.std.specs.Prelude.{◌≡◌, ◌≢◌, ◌≤◌, ◌<◌, ◌⊎◌, ◌↔◌, map, true, false, length, List, ℕ, Option, Some, None, IfSome, string_bytes};
 ghost use Rattle.std.specs.Option.{option_map};
 ghost use Rattle.replay_io.specs.Outside.{Rose};
-ghost use Rattle.replay_cli.specs.Runs.{order_of, AsksFor, Leaves, LeavesFor, LeavesTrace, IsComplete, IsSet, told_settings, Writes};
+ghost use Rattle.replay_cli.specs.Runs.{requested_by, AsksFor, Leaves, LeavesFor, LeavesTrace, IsComplete, IsSet, told_settings, Writes};
 ghost use Rattle.replay_cli.specs.SetUps.{SetsUp, SetUpAsks, TraceAsks, Settles, given_lines};
 ghost use Rattle.edit_model.specs.Settings.{read_settings as read_settings_of};
 
@@ -12,10 +13,10 @@ use crate::player::play_lines;
 use crate::requests::{Task, request_of};
 use crate::status::Status;
 use edit_base::{Limits, NoMemory, Steps};
-use edit_model::{Settings, SettingsFault};
+use edit_model::SettingsFault;
 use replace_engine::SpannedText;
 use replay_io::{ReadEnd, ReadFault, Sink, Store, read_all};
-use settings_reader::{built_in, read_settings};
+use settings_reader::{Settings, built_in, read_settings};
 use std::alloc::Global;
 use std::marker::Brand;
 use std::sync::ledger::{Blank, Ledger};
@@ -30,20 +31,23 @@ pub fn run<S: Store, K: Sink>(
     sink: &mut K,
 ) -> Status
     // The words alone decide this status, and then nothing is asked for and nothing written.
-    ensures usage { (result ≡ Status.Usage) ↔ (order_of (map string_bytes words.now) ≡ None) }
+    ensures usage { (result ≡ Status.Usage) ↔ (requested_by (map string_bytes words.now) ≡ None) }
 
     // Where the store tells the settings and the trace: what was written, and what is left of the trace.
-    ensures leaves { LeavesFor (order_of (map string_bytes words.now)) (S.stands store.old) result (S.left store.new)
+    ensures leaves { LeavesFor (requested_by (map string_bytes words.now)) (S.stands store.old) result (S.left store.new)
         (K.written sink.old) (K.written sink.new) }
 
-    // The causes of faults, and the names asked for.
+    // The causes of faults, that no fault is swallowed, and the names asked for.
     ensures read_fault { result ≡ Status.ReadFault → Rose (S.faults store.old) (S.faults store.new) }
+    ensures quiet_store { result ≢ Status.ReadFault → S.faults store.new ≡ S.faults store.old }
     ensures unread { result ≡ Status.ReadFault → K.written sink.new ≡ K.written sink.old }
     ensures write_fault { result ≡ Status.WriteFault → Rose (K.faults sink.old) (K.faults sink.new) }
-    ensures asks { AsksFor (order_of (map string_bytes words.now)) result (S.asked store.old) (S.asked store.new) }
+    ensures quiet_sink { result ≢ Status.WriteFault → K.faults sink.new ≡ K.faults sink.old }
+    ensures stands { (name : List ℕ) → S.stands store.new name ≡ S.stands store.old name }
+    ensures asks { AsksFor (requested_by (map string_bytes words.now)) result (S.asked store.old) (S.asked store.new) }
 
     // Where the settings have a reading, every line is a command and no device fails, a run is done or wants memory.
-    ensures complete { IsComplete (order_of (map string_bytes words.now)) (S.stands store.old)
+    ensures complete { IsComplete (requested_by (map string_bytes words.now)) (S.stands store.old)
         → ¬ Rose (S.faults store.old) (S.faults store.new) → ¬ Rose (K.faults sink.old) (K.faults sink.new)
         → (result ≡ Status.Done) ⊎ (result ≡ Status.NoMemory) }
 {
@@ -72,8 +76,11 @@ fn run_request<S: Store, K: Sink>(
     ensures leaves { Leaves task (told_settings (option_map (λ name. name.now) settings.entry) (S.stands store.old))
         (S.stands store.old trace.now) result (S.left store.new) (K.written sink.old) (K.written sink.new) }
     ensures read_fault { result ≡ Status.ReadFault → Rose (S.faults store.old) (S.faults store.new) }
+    ensures quiet_store { result ≢ Status.ReadFault → S.faults store.new ≡ S.faults store.old }
     ensures unread { result ≡ Status.ReadFault → K.written sink.new ≡ K.written sink.old }
     ensures write_fault { result ≡ Status.WriteFault → Rose (K.faults sink.old) (K.faults sink.new) }
+    ensures quiet_sink { result ≢ Status.WriteFault → K.faults sink.new ≡ K.faults sink.old }
+    ensures stands { (name : List ℕ) → S.stands store.new name ≡ S.stands store.old name }
     ensures asks { AsksFor (Some (record { task = task; settings = option_map (λ name. name.now) settings.entry; trace = trace.now }))
         result (S.asked store.old) (S.asked store.new) }
 {
@@ -92,6 +99,7 @@ fn set_up<S: Store>(
     ensures told { SetsUp result (told_settings (option_map (λ name. name.now) settings.entry) (S.stands store.old)) }
     ensures asks { SetUpAsks (option_map (λ name. name.now) settings.entry) result (S.asked store.old) (S.asked store.new) }
     ensures read_fault { result ≡ Err Status.ReadFault → Rose (S.faults store.old) (S.faults store.new) }
+    ensures quiet_store { result ≢ Err Status.ReadFault → S.faults store.new ≡ S.faults store.old }
     ensures stands { (other : List ℕ) → S.stands store.new other ≡ S.stands store.old other }
     ensures counts { S.faults store.old ≤ S.faults store.new }
 {
@@ -113,6 +121,7 @@ fn read_settings_file<S: Store>(
     ensures told { SetsUp result (told_settings (Some name.now) (S.stands store.old)) }
     ensures asks { SetUpAsks (Some name.now) result (S.asked store.old) (S.asked store.new) }
     ensures read_fault { result ≡ Err Status.ReadFault → Rose (S.faults store.old) (S.faults store.new) }
+    ensures quiet_store { result ≢ Err Status.ReadFault → S.faults store.new ≡ S.faults store.old }
     ensures stands { (other : List ℕ) → S.stands store.new other ≡ S.stands store.old other }
     ensures counts { S.faults store.old ≤ S.faults store.new }
 {
@@ -146,11 +155,14 @@ fn run_trace<S: Store, K: Sink>(
     sink: &mut K,
 ) -> Status
     ensures leaves { IfSome (S.stands store.old trace.now)
-        (λ bytes. LeavesTrace settings.now task bytes result (S.left store.new) (K.written sink.old) (K.written sink.new)) }
+        (λ bytes. LeavesTrace (as_settings settings.now) task bytes result (S.left store.new) (K.written sink.old) (K.written sink.new)) }
     ensures set { IsSet result }
     ensures read_fault { result ≡ Status.ReadFault → Rose (S.faults store.old) (S.faults store.new) }
+    ensures quiet_store { result ≢ Status.ReadFault → S.faults store.new ≡ S.faults store.old }
     ensures unread { result ≡ Status.ReadFault → K.written sink.new ≡ K.written sink.old }
     ensures write_fault { result ≡ Status.WriteFault → Rose (K.faults sink.old) (K.faults sink.new) }
+    ensures quiet_sink { result ≢ Status.WriteFault → K.faults sink.new ≡ K.faults sink.old }
+    ensures stands { (name : List ℕ) → S.stands store.new name ≡ S.stands store.old name }
     ensures asks { TraceAsks trace.now result (S.asked store.old) (S.asked store.new) }
     ensures counts { S.faults store.old ≤ S.faults store.new }
 {
@@ -173,10 +185,11 @@ fn run_bytes<K: Sink>(
     sink: &mut K,
 ) -> Status
     requires { length bytes.now ≤ 268435456 }
-    ensures writes { Writes (given_lines settings.now task is_cut bytes.now) result (K.written sink.old) (K.written sink.new) }
+    ensures writes { Writes (given_lines (as_settings settings.now) task is_cut bytes.now) result (K.written sink.old) (K.written sink.new) }
     ensures whole { result ≡ Status.Done → is_cut ≡ false }
     ensures cut { result ≡ Status.TraceTooLong → is_cut ≡ true }
     ensures failed { result ≡ Status.WriteFault → Rose (K.faults sink.old) (K.faults sink.new) }
+    ensures quiet_sink { result ≢ Status.WriteFault → K.faults sink.new ≡ K.faults sink.old }
 {
     match task {
         Task::Play => {
@@ -199,10 +212,11 @@ fn play_counted<K: Sink, L: Ledger>(
     requires name { blank.name ≡ L.name }
     requires parts { blank.parts ≡ L.parts }
     requires some { 0 < blank.parts }
-    ensures writes { Writes (given_lines settings.now Task.Play is_cut bytes.now) result (K.written sink.old) (K.written sink.new) }
+    ensures writes { Writes (given_lines (as_settings settings.now) Task.Play is_cut bytes.now) result (K.written sink.old) (K.written sink.new) }
     ensures whole { result ≡ Status.Done → is_cut ≡ false }
     ensures cut { result ≡ Status.TraceTooLong → is_cut ≡ true }
     ensures failed { result ≡ Status.WriteFault → Rose (K.faults sink.old) (K.faults sink.new) }
+    ensures quiet_sink { result ≢ Status.WriteFault → K.faults sink.new ≡ K.faults sink.old }
 {
     let mut steps = Steps::<L>::start(blank);
     match SpannedText::new(alloc) {

@@ -2,6 +2,7 @@ use crate::run::run;
 use crate::status::Status;
 use edit_model::{SettingsFault, TraceFault};
 use replay_io::{MemorySink, MemoryStore, SteadySink, SteadyStore, StoredFile};
+use settings_reader::Settings;
 use std::alloc::Global;
 use std::test::Fail;
 

@@ -1,19 +1,12 @@
 -- What several calls of a store or a sink leave together.
-use Rattle.std.proofs.Common.{ℕ, ◌≡◌, ◌<◌, ◌≤◌, ◌+◌, ◌-◌, ◌++◌, List, [], length, take, drop, Option, Some, None, Result, Ok, Err, refl, sym, ap, ◌∙◌, inl, inr, arith, append_assoc, length-append}
+use Rattle.std.proofs.Common.{ℕ, ◌≡◌, ◌<◌, ◌≤◌, ◌+◌, ◌-◌, ◌++◌, List, [], length, take, drop, Option, Some, None, Result, Ok, Err, refl, sym, ap, ◌∙◌, arith, append_assoc, length-append}
 use Rattle.std.specs.Option.{option_map}
 use Rattle.std.proofs.lemmas.List.{take-append-drop, take_at, drop_at, length-take, take-take, take_rest}
 use Rattle.std.proofs.Math.Seq.{take-add, take-append-add, drop-append-add}
-use Rattle.std.proofs.lemmas.Bool.{cases_lt}
-use Rattle.replay_io.specs.Outside.{Rose, HandsOut, Gains, with_more}
+use Rattle.replay_io.specs.Outside.{HandsOut, Gains, with_more}
 use Rattle.replay_io.specs.declared.faults.ReadFault.{ReadFault}
-use Rattle.replay_io.specs.declared.files.ReadEnd.{ReadEnd}
-use Rattle.replay_io.specs.declared.files.ReadEnd.TheVariants.{Over}
-
--- a count that never falls rose over a stretch in which it rose
-pub Rose-within : (a b c d : ℕ) → a ≤ b → Rose b c → c ≤ d → Rose a d
-Rose-within a b c d below (inl rose) above = inl (omega arith)
-Rose-within a b c d below (inr still) above =
-    elim (cases_lt a d) [ inl less ↦ inl less | inr more ↦ inr (omega arith, omega arith) ]
+use Rattle.replay_io.specs.declared.whole_files.ReadEnd.{ReadEnd}
+use Rattle.replay_io.specs.declared.whole_files.ReadEnd.TheVariants.{Over}
 
 -- these bytes were taken from the front of what was left
 abbrev pub Takes : Option (List ℕ) → List ℕ → Option (List ℕ) → Type 0

@@ -3,8 +3,8 @@ use Rattle.std.specs.Prelude.{ℕ, ◌≡◌, ◌<◌, ◌≤◌, ◌⊎◌, ◌
 use Rattle.std.specs.Option.{option_map}
 use Rattle.replay_io.specs.declared.faults.ReadFault.{ReadFault}
 use Rattle.replay_io.specs.declared.faults.ReadFault.TheVariants as fault
-use Rattle.replay_io.specs.declared.files.ReadEnd.{ReadEnd}
-use Rattle.replay_io.specs.declared.files.ReadEnd.TheVariants.{Whole, Over}
+use Rattle.replay_io.specs.declared.whole_files.ReadEnd.{ReadEnd}
+use Rattle.replay_io.specs.declared.whole_files.ReadEnd.TheVariants.{Whole, Over}
 
 -- a name that a store was asked for, and whether reading began
 pub record Asked : Type 0 where

@@ -6,14 +6,14 @@ use edit_base::NoMemory;
 use std::alloc::Global;
 use std::marker::Model;
 
-/// A name, and whether reading began.
+// A name, and whether reading began.
 #[derive(Debug, Drop)]
 pub(crate) struct AskedName {
     pub(crate) name: String,
     pub(crate) begun: bool,
 }
 
-/// The names in the order in which they were asked for.
+// The names in the order in which they were asked for.
 #[derive(Debug, Drop)]
 pub(crate) struct AskedNames {
     names: Vec<AskedName>,
@@ -31,7 +31,7 @@ impl Model for AskedNames {
 }
 
 impl AskedNames {
-    /// No name yet. It takes no memory.
+    // No name yet. It takes no memory.
     pub(crate) fn new(alloc: Global) -> AskedNames
         ensures { result ≡ [] }
     {
@@ -40,7 +40,7 @@ impl AskedNames {
         }
     }
 
-    /// Keeps one more name. Without memory for it nothing changes.
+    // Keeps one more name. Without memory for it nothing changes.
     pub(crate) fn keep(&mut self, name: &str, begun: bool) -> Result<(), NoMemory>
         ensures ok { OnOk result (self.new ≡ self.old ++ record { name = name.now; begun = begun } ∷ []) }
         ensures err { OnErr result (self.new ≡ self.old) }

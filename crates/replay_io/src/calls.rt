@@ -6,8 +6,8 @@ ghost use Rattle.replay_io.specs.Outside.{Rose};
 
 use std::marker::Model;
 
-/// The numbers of the calls that fail, the number of the next call, and how many calls failed. A number that rises
-/// stands still at its end.
+// The numbers of the calls that fail, the number of the next call, and how many calls failed. A number that rises
+// stands still at its end.
 #[derive(Debug, Drop)]
 pub(crate) struct Calls {
     failing: Vec<u32>,
@@ -24,7 +24,7 @@ impl Model for Calls {
 }
 
 impl Calls {
-    /// No call was made yet; the first one has the number 1.
+    // No call was made yet; the first one has the number 1.
     pub(crate) fn new(failing: Vec<u32>) -> Calls
         ensures { result ≡ from_first failing.items }
     {
@@ -35,7 +35,7 @@ impl Calls {
         }
     }
 
-    /// Whether the next call is one that fails.
+    // Whether the next call is one that fails.
     pub(crate) fn is_listed(&self) -> bool
         ensures { result ≡ is_listed self.now }
     {
@@ -43,14 +43,14 @@ impl Calls {
         self.failing.iter().any(|number| u64::from(*number) == next)
     }
 
-    /// Counts a call that succeeds.
+    // Counts a call that succeeds.
     pub(crate) fn succeed(&mut self)
         ensures { self.new ≡ after_success self.old }
     {
         self.next = self.next.saturating_add(1);
     }
 
-    /// Counts a call that fails.
+    // Counts a call that fails.
     pub(crate) fn fail(&mut self)
         ensures state { self.new ≡ after_fault self.old }
         ensures rose { Rose self.old.faults self.new.faults }

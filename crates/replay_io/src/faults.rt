@@ -6,9 +6,6 @@ ghost use Rattle.replay_io.specs.declared.faults.ReadFault.TheVariants as fault;
 use edit_base::NoMemory;
 use std::alloc::AllocError;
 
-/// How often a call of the system is tried that a signal cuts short.
-pub(crate) const TRIES: u32 = 64;
-
 /// The device failed. A count of faults rose in the call that answers this.
 #[derive(Clone, Copy, Debug, PartialEq, Eq)]
 pub struct Failed;

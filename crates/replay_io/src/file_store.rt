@@ -1,22 +1,24 @@
 //! The real files.
 
-ghost use Rattle.std.specs.Prelude.{◌≡◌, ◌≤◌, length, IfOk, IfSome, OnOk, OnErr, Ok, false};
+ghost use Rattle.std.specs.Prelude.{◌≡◌, ◌≤◌, ◌<◌, length, take, IfOk, OnOk, OnErr, Ok, false};
+ghost use Rattle.std.specs.Io.KnownBytes.{Consumes, IsAtEnd, Keeps};
 ghost use Rattle.replay_io.specs.Outside.{Rose};
-ghost use Rattle.replay_io.specs.Real.{unasked, opened, unopened, unread};
+ghost use Rattle.replay_io.specs.Real.{unasked, opened, unopened, unread, left_with};
 
 use crate::asked::AskedNames;
-use crate::faults::{Failed, ReadFault, TRIES};
+use crate::faults::{Failed, ReadFault};
 use crate::store::Store;
+use crate::system::{open_file, read_some};
 use std::alloc::Global;
-use std::fs::File;
-use std::io::{ErrorKind, Read};
 use std::marker::Model;
 use std::rt::Files;
 
-/// The files of the system. It tells no bytes: what a file holds, no clause can say.
+/// The files of the system. It tells no bytes: what a file holds when it is opened, no clause can say. Of a file that
+/// is open it hands out what std says is left of it, in order.
 ///
-/// Before a file is begun a call hands out no byte. A `begin_read` answers `NoMemory` where the system tells want of
-/// memory, or where there is none for the name.
+/// Before a file is begun a call hands out no byte. An open or a read that a signal cuts short is tried again, a
+/// bounded number of times; every other failure counts at once. A `begin_read` answers `NoMemory` where the system
+/// tells want of memory, or where there is none for the name.
 #[derive(Drop)]
 pub struct FileStore<R: Files> {
     rt: R,
@@ -26,12 +28,17 @@ pub struct FileStore<R: Files> {
 }
 
 impl<R: Files> Model for FileStore<R> {
-    ghost use Rattle.std.specs.Prelude.{is_some};
+    ghost use Rattle.std.specs.Prelude.{is_some, option_and_then};
     ghost use Rattle.replay_io.specs.Real.{RealFiles};
 
     ghost Value = { RealFiles };
 
-    ghost view = { λ store. record { asked = store.asked; reading = is_some store.file; faults = store.faults } };
+    ghost view = { λ store. record {
+      asked = store.asked;
+      reading = is_some store.file;
+      left = option_and_then R.File.remaining store.file;
+      faults = store.faults;
+    } };
 }
 
 impl<R: Files> FileStore<R> {
@@ -60,22 +67,20 @@ impl<R: Files> Store for FileStore<R> {
     ghost faults = { λ store. store.faults };
 
     fn begin_read(&mut self, name: &str) -> Result<(), ReadFault>
-        ensures begun { OnOk result (self.new ≡ opened name.now self.old) }
+        ensures begun { OnOk result (self.new ≡ left_with self.new.left (opened name.now self.old)) }
         ensures refused { result ≡ Err ReadFault.Failed → self.new ≡ unopened name.now self.old }
         ensures no_memory { result ≡ Err ReadFault.NoMemory → self.new ≡ self.old }
         ensures failed { result ≡ Err ReadFault.Failed → Rose self.old.faults self.new.faults }
         ensures counts { self.old.faults ≤ self.new.faults }
     {
-        match File::open(&self.rt, name) {
+        match open_file(&self.rt, name) {
             Ok(file) => {
                 self.asked.keep(name, true)?;
                 self.file = Some(file);
                 Ok(())
             }
-            Err(error) => {
-                if error.kind() == ErrorKind::OutOfMemory {
-                    return Err(ReadFault::NoMemory);
-                }
+            Err(ReadFault::NoMemory) => Err(ReadFault::NoMemory),
+            Err(ReadFault::Failed) => {
                 self.asked.keep(name, false)?;
                 self.faults = self.faults.saturating_add(1);
                 Err(ReadFault::Failed)
@@ -85,9 +90,12 @@ impl<R: Files> Store for FileStore<R> {
 
     fn take(&mut self, buf: &mut [u8]) -> Result<usize, Failed>
         ensures within { IfOk result (λ count. count ≤ length buf.new) }
+        ensures bytes { IfOk result (λ count. Consumes self.old.left self.new.left (take count buf.new)) }
+        ensures end { IfOk result (λ count. count ≡ 0 → 0 < length buf.new → IsAtEnd self.new.left) }
         ensures unbegun { self.old.reading ≡ false → result ≡ Ok 0 }
-        ensures ok { OnOk result (self.new ≡ self.old) }
-        ensures err { OnErr result (self.new ≡ unread self.old) }
+        ensures ok { OnOk result (self.new ≡ left_with self.new.left self.old) }
+        ensures err { OnErr result (self.new ≡ left_with self.new.left (unread self.old)) }
+        ensures keeps { OnErr result (Keeps self.old.left self.new.left) }
         ensures failed { OnErr result (Rose self.old.faults self.new.faults) }
         ensures counts { self.old.faults ≤ self.new.faults }
     {
@@ -102,21 +110,4 @@ impl<R: Files> Store for FileStore<R> {
             }
         }
     }
-}
-
-/// Reads the next bytes of a file, and answers how many.
-fn read_some<F: Read>(file: &mut F, buf: &mut [u8]) -> Option<usize>
-    ensures { IfSome result (λ count. count ≤ length buf.new) }
-{
-    for _ in 0..TRIES {
-        match file.read(buf) {
-            Ok(count) => return Some(count),
-            Err(error) => {
-                if error.kind() != ErrorKind::Interrupted {
-                    return None;
-                }
-            }
-        }
-    }
-    None
 }

@@ -5,7 +5,6 @@ mod asked;
 mod calls;
 mod faults;
 mod file_store;
-mod files;
 mod memory_sink;
 mod memory_store;
 mod out_sink;
@@ -14,10 +13,11 @@ mod steady_sink;
 mod steady_store;
 mod store;
 mod stored;
+mod system;
+mod whole_files;
 
 pub use faults::{Failed, ReadFault};
 pub use file_store::FileStore;
-pub use files::{ReadEnd, read_all, write_all_of};
 pub use memory_sink::MemorySink;
 pub use memory_store::MemoryStore;
 pub use out_sink::OutSink;
@@ -26,6 +26,9 @@ pub use steady_sink::SteadySink;
 pub use steady_store::SteadyStore;
 pub use store::Store;
 pub use stored::StoredFile;
+pub use whole_files::{ReadEnd, read_all, write_all_of};
 
+#[cfg(test)]
+mod shaky;
 #[cfg(test)]
 mod tests;

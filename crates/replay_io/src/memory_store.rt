@@ -13,7 +13,8 @@ use crate::stored::{StoredFile, StoredFiles};
 use std::marker::Model;
 
 /// Files in memory. Where two have one name, the first counts. Before a file is begun nothing is left, and a call
-/// hands out no byte. The store tells its bytes: none under a name that isn't there.
+/// hands out no byte. The store tells its bytes. Of a name that isn't there it tells an empty file, which is never
+/// begun.
 ///
 /// The calls of `begin_read` and `take` are counted together, from 1. Those whose numbers are listed fail, and so does
 /// a `begin_read` of a name that isn't there. No other call fails. A `begin_read` that answers `NoMemory` isn't

@@ -1,13 +1,14 @@
 //! Where bytes are written.
 
-ghost use Rattle.std.specs.Prelude.{ℕ, ◌≡◌, ◌≤◌, ◌<◌, List, Option, length, take, IfOk, OnErr};
+ghost use Rattle.std.specs.Prelude.{ℕ, ◌≡◌, ◌≤◌, ◌<◌, List, Option, length, take, IfOk, OnOk, OnErr};
 ghost use Rattle.replay_io.specs.Outside.{Rose, with_more};
 
 use crate::faults::Failed;
 
 /// A place to write to, one piece behind the other.
 ///
-/// A sink may tell what was written. It always tells how many faults it had, a count that never falls.
+/// A sink may tell what was written. It always tells how many faults it had: a count that rises with each call that
+/// fails, and with no other.
 pub trait Sink {
     ghost written: { Self → Option (List ℕ) };
 
@@ -22,5 +23,6 @@ pub trait Sink {
             written self.new ≡ with_more (written self.old) (take count bytes.now)) }
         ensures err { OnErr result (written self.new ≡ written self.old) }
         ensures failed { OnErr result (Rose (faults self.old) (faults self.new)) }
+        ensures quiet { OnOk result (faults self.new ≡ faults self.old) }
         ensures counts { faults self.old ≤ faults self.new };
 }

@@ -10,8 +10,10 @@ use crate::sink::Sink;
 pub struct SteadySink;
 
 impl SteadySink {
-    /// A sink.
-    pub fn new() -> SteadySink {
+    /// It takes no memory.
+    pub fn new() -> SteadySink
+        ensures { result ≡ record {} }
+    {
         SteadySink
     }
 }

@@ -1,6 +1,6 @@
 //! Where files are read from.
 
-ghost use Rattle.std.specs.Prelude.{ℕ, ◌≡◌, ◌≤◌, ◌<◌, ◌++◌, [], ◌∷◌, List, Option, length, IfOk, OnOk, OnErr};
+ghost use Rattle.std.specs.Prelude.{ℕ, ◌≡◌, ◌≢◌, ◌≤◌, ◌<◌, ◌++◌, [], ◌∷◌, List, Option, length, IfOk, OnOk, OnErr};
 ghost use Rattle.replay_io.specs.Outside.{Asked, begun_name, refused_name, Rose, HandsOut};
 
 use crate::faults::{Failed, ReadFault};
@@ -8,7 +8,8 @@ use crate::faults::{Failed, ReadFault};
 /// Files under names, of which one at a time is read from its begin to its end.
 ///
 /// A store may tell what stands under a name, and what is left of the file that was begun last. It always tells the
-/// names that it was asked for, and how many faults it had, a count that never falls.
+/// names that it was asked for, and how many faults it had: a count that rises with each call that answers `Failed`,
+/// and with no other.
 pub trait Store {
     ghost stands: { Self → List ℕ → Option (List ℕ) };
 
@@ -27,7 +28,7 @@ pub trait Store {
             → asked self.new ≡ asked self.old ++ refused_name name.now ∷ [] }
         ensures failed { result ≡ Err ReadFault.Failed → Rose (faults self.old) (faults self.new) }
         ensures no_memory { result ≡ Err ReadFault.NoMemory → asked self.new ≡ asked self.old }
-        ensures no_fault { result ≡ Err ReadFault.NoMemory → faults self.new ≡ faults self.old }
+        ensures quiet { result ≢ Err ReadFault.Failed → faults self.new ≡ faults self.old }
         ensures stands { (other : List ℕ) → stands self.new other ≡ stands self.old other }
         ensures counts { faults self.old ≤ faults self.new };
 
@@ -38,6 +39,7 @@ pub trait Store {
         ensures bytes { IfOk result (λ count. HandsOut (left self.old) (left self.new) buf.new count) }
         ensures err { OnErr result (left self.new ≡ left self.old) }
         ensures failed { OnErr result (Rose (faults self.old) (faults self.new)) }
+        ensures quiet { OnOk result (faults self.new ≡ faults self.old) }
         ensures asked { asked self.new ≡ asked self.old }
         ensures stands { (other : List ℕ) → stands self.new other ≡ stands self.old other }
         ensures counts { faults self.old ≤ faults self.new };

@@ -14,8 +14,8 @@ pub struct StoredFile {
     pub bytes: Vec<u8>,
 }
 
-/// Files in memory, the most bytes that a call hands out, the names asked for, and where the file that was begun last
-/// is read. The place of the file is the number of files where none was begun.
+// Files in memory, the most bytes that a call hands out, the names asked for, and where the file that was begun last
+// is read. The place of the file is the number of files where none was begun.
 #[derive(Debug, Drop)]
 pub(crate) struct StoredFiles {
     files: Vec<StoredFile>,
@@ -45,7 +45,7 @@ impl Model for StoredFiles {
 }
 
 impl StoredFiles {
-    /// Nothing was read yet. A call hands out at most `piece` bytes.
+    // Nothing was read yet. A call hands out at most `piece` bytes.
     pub(crate) fn new(files: Vec<StoredFile>, piece: usize) -> StoredFiles
         requires { 1 ≤ piece }
         ensures { result ≡ unread (map file_of files.items) piece }
@@ -61,14 +61,14 @@ impl StoredFiles {
         }
     }
 
-    /// Whether a file has the name.
+    // Whether a file has the name.
     pub(crate) fn has(&self, name: &str) -> bool
         ensures { result ≡ is_there name.now self.now.files }
     {
         place_of(&self.files, name) < self.files.len()
     }
 
-    /// Begins the first file of a name; where none has it, nothing is left.
+    // Begins the first file of a name; where none has it, nothing is left.
     pub(crate) fn begin(&mut self, name: &str) -> Result<(), NoMemory>
         ensures ok { OnOk result (self.new ≡ after_begin name.now self.old) }
         ensures err { OnErr result (self.new ≡ self.old) }
@@ -79,7 +79,7 @@ impl StoredFiles {
         Ok(())
     }
 
-    /// Keeps a name that reading doesn't begin for.
+    // Keeps a name that reading doesn't begin for.
     pub(crate) fn refuse(&mut self, name: &str) -> Result<(), NoMemory>
         ensures ok { OnOk result (self.new ≡ after_refusal name.now self.old) }
         ensures err { OnErr result (self.new ≡ self.old) }
@@ -87,7 +87,7 @@ impl StoredFiles {
         self.asked.keep(name, false)
     }
 
-    /// Hands out the next bytes, and answers how many.
+    // Hands out the next bytes, and answers how many.
     pub(crate) fn hand_out(&mut self, buf: &mut [u8]) -> usize
         ensures count { result ≡ handed (length buf.new) self.old }
         ensures bytes { take result buf.new ≡ take result self.old.left }
@@ -102,7 +102,7 @@ impl StoredFiles {
     }
 }
 
-/// The place of the first file of a name, or the number of files where none has it.
+// The place of the first file of a name, or the number of files where none has it.
 fn place_of(files: &[StoredFile], name: &str) -> usize
     ensures { result ≡ place_of name.now (map file_of files.now) }
 {
@@ -114,7 +114,7 @@ fn place_of(files: &[StoredFile], name: &str) -> usize
     files.len()
 }
 
-/// The bytes of the file at a place, and none behind the last file.
+// The bytes of the file at a place, and none behind the last file.
 fn bytes_at(files: &[StoredFile], place: usize) -> &[u8]
     ensures { result.now ≡ bytes_at place (map file_of files.now) }
 {
@@ -124,7 +124,7 @@ fn bytes_at(files: &[StoredFile], place: usize) -> &[u8]
     }
 }
 
-/// Copies the first bytes, at most so many of them, and answers how many there were.
+// Copies the first bytes, at most so many of them, and answers how many there were.
 fn copy_first(from: &[u8], most: usize, to: &mut [u8]) -> usize
     requires { most ≤ length to.old }
     ensures count { result ≡ min most (length from.now) }

@@ -1,12 +1,15 @@
+use super::shaky::Shaky;
+use super::system::read_some;
 use super::{
     Failed, FileStore, MemorySink, MemoryStore, OutSink, ReadEnd, ReadFault, Sink, SteadySink,
     SteadyStore, Store, StoredFile, read_all, write_all_of,
 };
 use std::alloc::{AllocError, Global};
-use std::fs;
+use std::io::ErrorKind;
 use std::test::Fail;
+use std::{fs, io};
 
-/// Two files of one name and an empty one.
+// Two files of one name and an empty one.
 fn files(alloc: Global) -> Result<Vec<StoredFile>, AllocError> {
     let mut files = Vec::new(alloc);
     for (name, text) in [("greeting", "hello"), ("greeting", "other"), ("empty", "")] {
@@ -137,27 +140,88 @@ fn puts_what_there_is_room_for(rt: HostRuntime) -> Result<(), Fail> {
 fn reads_real_files(rt: HostRuntime) -> Result<(), Fail> {
     fs::write(&rt, "greeting.txt", "hello\nworld\n")?;
     let mut store = FileStore::new(&rt, rt.alloc());
-    let mut whole = Vec::new(rt.alloc());
-    let mut front = Vec::new(rt.alloc());
     let unbegun = store.take(&mut [0; 2]);
-    let answers = [
-        read_all(&mut store, "missing.txt", 99, &mut whole),
-        read_all(&mut store, "greeting.txt", 12, &mut whole),
-        read_all(&mut store, "greeting.txt", 11, &mut front),
-    ];
-    fs::remove_file(&rt, "greeting.txt")?;
     assert_eq!(rt; unbegun, Ok(0));
-    assert_eq!(rt; answers[0], Err(ReadFault::Failed));
-    assert_eq!(rt; answers[1], Ok(ReadEnd::Whole));
-    assert_eq!(rt; answers[2], Ok(ReadEnd::Over));
-    assert_eq!(rt; whole.as_slice(), b"hello\nworld\n".as_slice());
-    assert_eq!(rt; front.as_slice(), b"hello\nworld".as_slice());
+    // A folder can be opened, and no byte of it read.
+    let cases = [
+        ("missing.txt", 99u32, Err(ReadFault::Failed), ""),
+        (".", 99, Err(ReadFault::Failed), ""),
+        ("greeting.txt", 12, Ok(ReadEnd::Whole), "hello\nworld\n"),
+        ("greeting.txt", 11, Ok(ReadEnd::Over), "hello\nworld"),
+    ];
+    for (name, limit, answer, gained) in cases {
+        let mut out = Vec::new(rt.alloc());
+        let got = read_all(&mut store, name, limit, &mut out);
+        assert_eq!(rt; got, answer, "{name} to {limit}");
+        assert_eq!(rt; out.as_slice(), gained.as_bytes(), "{name} to {limit}");
+    }
+    fs::remove_file(&rt, "greeting.txt")?;
+    Ok(())
+}
+
+#[test]
+fn tries_an_open_again_that_was_cut_short(rt: HostRuntime) -> Result<(), Fail> {
+    let cases = [
+        (1u32, ErrorKind::Interrupted, Ok(())),
+        (u32::MAX, ErrorKind::Interrupted, Err(ReadFault::Failed)),
+        (1, ErrorKind::PermissionDenied, Err(ReadFault::Failed)),
+        (1, ErrorKind::OutOfMemory, Err(ReadFault::NoMemory)),
+    ];
+    for (failing, kind, answer) in cases {
+        let mut store = FileStore::new(Shaky::new(&rt, failing, kind), rt.alloc());
+        assert_eq!(rt; store.begin_read("."), answer, "{failing} times {kind:?}");
+    }
+    Ok(())
+}
+
+#[test]
+fn tries_a_read_again_that_was_cut_short(rt: HostRuntime) -> Result<(), Fail> {
+    let cases = [
+        (1u32, ErrorKind::Interrupted, Some(4)),
+        (u32::MAX, ErrorKind::Interrupted, None),
+        (1, ErrorKind::OutOfMemory, None),
+    ];
+    for (failing, kind, answer) in cases {
+        let mut file = Shaky::new(b"hello".as_slice(), failing, kind);
+        let got = read_some(&mut file, &mut [0; 4]);
+        assert_eq!(rt; got, answer, "{failing} times {kind:?}");
+    }
+    Ok(())
+}
+
+#[test]
+fn puts_to_a_writer(rt: HostRuntime) -> Result<(), Fail> {
+    // A writer that takes no byte has failed.
+    let cases = [
+        (0u32, ErrorKind::Other, Ok(()), Err(Failed), "hello"),
+        (1, ErrorKind::Interrupted, Ok(()), Err(Failed), "hello"),
+        (
+            u32::MAX,
+            ErrorKind::Interrupted,
+            Err(Failed),
+            Err(Failed),
+            ".....",
+        ),
+        (1, ErrorKind::BrokenPipe, Err(Failed), Ok(4), "more."),
+    ];
+    for (failing, kind, all, more, written) in cases {
+        let mut room = *b".....";
+        let mut sink = OutSink::new(Shaky::new(room.as_mut_slice(), failing, kind));
+        let answers = (write_all_of(&mut sink, b"hello"), sink.put(b"more"));
+        assert_eq!(rt; answers.0, all, "{failing} times {kind:?}");
+        assert_eq!(rt; answers.1, more, "{failing} times {kind:?}");
+        assert_eq!(rt;
+            room.as_slice(),
+            written.as_bytes(),
+            "{failing} times {kind:?}"
+        );
+    }
     Ok(())
 }
 
 #[test]
 fn puts_to_standard_output(rt: HostRuntime) -> Result<(), Fail> {
-    let mut sink = OutSink::new(&rt);
+    let mut sink = OutSink::new(io::writer(&rt));
     assert_eq!(rt; sink.put(b"\n"), Ok(1));
     assert_eq!(rt; write_all_of(&mut sink, b"put\n"), Ok(()));
     Ok(())

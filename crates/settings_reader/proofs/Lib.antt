@@ -1,5 +1,6 @@
 mod Documents
 mod Each
+mod Fits
 mod Pairs
 mod TableKeys
 mod Values

@@ -1,15 +1,12 @@
 -- The keys of a table, as the map has them and as the definition has them.
-use Rattle.std.proofs.Common.{ℕ, ◌≡◌, Bool, not, ◌||◌, List, [], ◌∷◌, map, String, Global, Bor, string_bytes, refl, ap, ◌∙◌}
+use Rattle.std.proofs.Common.{ℕ, ◌≡◌, Bool, not, ◌||◌, List, [], ◌∷◌, map, String, Global, Bor, string_bytes, refl, sym, ap, ◌∙◌}
 use Rattle.std.specs.List.{list_any}
 use Rattle.std.specs.Map.{keys_of as keys_of_map}
 use Rattle.std.specs.Str.{bytes_eq}
 use Rattle.toml.specs.View.{members_view}
 use Rattle.toml.specs.declared.value.Value.{Value}
 use Rattle.edit_model.specs.Settings.{has_foreign}
-
-list_any-map : {X Y : Type 0} (test : Y → Bool) (f : X → Y) (xs : List X) → list_any (λ x. test (f x)) xs ≡ list_any test (map f xs)
-list_any-map test f [] = refl
-list_any-map test f (x ∷ xs) = ap (λ rest. test (f x) || rest) (list_any-map test f xs)
+use Rattle.edit_model.proofs.Tests.{list_any-map}
 
 -- a key that is none of these names
 abbrev pub is_other : List (Bor (List ℕ)) → List ℕ → Bool
@@ -19,5 +16,6 @@ pub has_foreign-entries : (names : List (Bor (List ℕ))) (entries : List (Strin
     → list_any (λ key. is_other names (string_bytes key)) (keys_of_map entries) ≡ has_foreign (map (λ name. name.now) names) (members_view entries)
 has_foreign-entries names [] = refl
 has_foreign-entries names (first ∷ entries) =
-    ap (λ test. not test || list_any (λ key. is_other names (string_bytes key)) (keys_of_map entries)) (list_any-map (λ name. bytes_eq name (string_bytes first.0)) (λ name. name.now) names)
+    ap (λ test. not test || list_any (λ key. is_other names (string_bytes key)) (keys_of_map entries))
+    (sym (list_any-map (λ name. name.now) (λ name. bytes_eq name (string_bytes first.0)) names))
     ∙ ap (λ rest. not (list_any (λ name. bytes_eq name (string_bytes first.0)) (map (λ name. name.now) names)) || rest) (has_foreign-entries names entries)

@@ -1,12 +1,15 @@
 //! The filters of a settings file.
 
-ghost use Rattle.std.specs.Prelude.{◌≡◌, ◌≤◌, [], ◌∷◌, codes, length, IfOk, Ok};
+ghost use Rattle.std.specs.Prelude.{◌≡◌, [], ◌∷◌, codes, Ok};
 ghost use Rattle.toml.specs.View.{view, items_view, table_view};
 ghost use Rattle.edit_base.specs.declared.bounds.TheConstants.Limits.{FILTERS};
-ghost use Rattle.edit_model.specs.Settings.{only as only_keys, filters_of as filters_by, tables_of as tables_by, each_of, filter_in as filter_by, filter_of as filter_by_table, filter_by_kind as filter_of_kind, length_filter as length_by, allow_filter as allow_by};
-ghost use Rattle.settings_reader.specs.Faults.{Gives, Finds};
+ghost use Rattle.edit_model.specs.Faults.{Gives, GivesSeen};
+ghost use Rattle.edit_model.specs.Settings.{only as only_keys, filters_of as filters_by, tables_of as tables_by};
+ghost use Rattle.edit_model.specs.Settings.{filter_of as filter_by_table};
+ghost use Rattle.edit_model.specs.Settings.{filter_by_kind as filter_of_kind, length_filter as length_by};
+ghost use Rattle.edit_model.specs.Settings.{allow_filter as allow_by};
 
-use crate::arrays::{are_tables, few_of, values_of};
+use crate::arrays::{FromValue, are_tables, each_of, few_of, values_of};
 use crate::keys::{number_of, only, value_at};
 use crate::ranges::ranges_of;
 use edit_base::{Items, Limits};
@@ -20,16 +23,15 @@ use toml::{Table, Value};
 /// `Value` where the value is no array, or one of its values is no table; then `Limit` where there are more than 8;
 /// then the first fault of the first table that has one.
 pub(crate) fn filters_of(alloc: Global, value: &Value) -> Result<Items<Filter>, SettingsFault>
-    ensures filters { Gives (filters_by (view value.now)) result }
-    ensures few { IfOk result (λ filters. length filters ≤ 8) }
+    ensures { Gives SettingsFault.NoMemory (filters_by (view value.now)) result }
 {
     let tables = tables_of(value)?;
-    each_filter(alloc, tables)
+    each_of(alloc, tables)
 }
 
 fn tables_of(value: &Value) -> Result<&[Value], SettingsFault>
-    ensures tables { Finds (λ tables. items_view tables.now) (tables_by FILTERS (view value.now)) result }
-    ensures few { IfOk result (λ tables. length tables.now ≤ 8) }
+    ensures { GivesSeen SettingsFault.NoMemory (λ tables. items_view tables.now)
+        (tables_by FILTERS (view value.now)) result }
 {
     let values = values_of(value)?;
     if !are_tables(values) {
@@ -38,30 +40,21 @@ fn tables_of(value: &Value) -> Result<&[Value], SettingsFault>
     few_of(values, Limits::FILTERS)
 }
 
-fn each_filter(alloc: Global, tables: &[Value]) -> Result<Items<Filter>, SettingsFault>
-    ensures filters { Gives (each_of filter_by (items_view tables.now)) result }
-    ensures few { IfOk result (λ filters. length filters ≤ length tables.now) }
-{
-    let mut filters = Items::from_vec(Vec::new(alloc));
-    for table in tables {
-        filters
-            .push(filter_in(alloc, table)?)
-            .map_err(|_| SettingsFault::NoMemory)?;
-    }
-    Ok(filters)
-}
+impl FromValue for Filter {
+    ghost use Rattle.edit_model.specs.Settings.{filter_in};
 
-fn filter_in(alloc: Global, value: &Value) -> Result<Filter, SettingsFault>
-    ensures { Gives (filter_by (view value.now)) result }
-{
-    match value.as_table() {
-        Some(table) => filter_of(alloc, table),
-        None => Err(SettingsFault::Value),
+    ghost reading = { filter_in };
+
+    fn from_value(alloc: Global, value: &Value) -> Result<Self, SettingsFault> {
+        match value.as_table() {
+            Some(table) => filter_of(alloc, table),
+            None => Err(SettingsFault::Value),
+        }
     }
 }
 
 fn filter_of(alloc: Global, table: &Table) -> Result<Filter, SettingsFault>
-    ensures { Gives (filter_by_table (table_view table.now)) result }
+    ensures { Gives SettingsFault.NoMemory (filter_by_table (table_view table.now)) result }
 {
     let kind = value_at(table, "kind")?;
     match kind.as_str() {
@@ -71,7 +64,7 @@ fn filter_of(alloc: Global, table: &Table) -> Result<Filter, SettingsFault>
 }
 
 fn filter_by_kind(alloc: Global, table: &Table, kind: &str) -> Result<Filter, SettingsFault>
-    ensures { Gives (filter_of_kind (table_view table.now) kind.now) result }
+    ensures { Gives SettingsFault.NoMemory (filter_of_kind (table_view table.now) kind.now) result }
 {
     match kind {
         "length" => length_filter(table),
@@ -91,8 +84,8 @@ fn plain_filter(table: &Table, filter: Filter) -> Result<Filter, SettingsFault>
 }
 
 fn length_filter(table: &Table) -> Result<Filter, SettingsFault>
-    ensures { result ≡ only_keys (codes "kind" ∷ codes "max" ∷ []) (table_view table.now)
-        (length_by (table_view table.now)) }
+    ensures { Gives SettingsFault.NoMemory (only_keys (codes "kind" ∷ codes "max" ∷ []) (table_view table.now)
+        (length_by (table_view table.now))) result }
 {
     only(table, &["kind", "max"])?;
     let most = value_at(table, "max")?;
@@ -100,7 +93,7 @@ fn length_filter(table: &Table) -> Result<Filter, SettingsFault>
 }
 
 fn allow_filter(alloc: Global, table: &Table) -> Result<Filter, SettingsFault>
-    ensures { Gives (only_keys (codes "kind" ∷ codes "ranges" ∷ []) (table_view table.now)
+    ensures { Gives SettingsFault.NoMemory (only_keys (codes "kind" ∷ codes "ranges" ∷ []) (table_view table.now)
         (allow_by (table_view table.now))) result }
 {
     only(table, &["kind", "ranges"])?;

@@ -1,12 +1,13 @@
 //! The keys of a table, and the numbers that they hold.
 
-ghost use Rattle.std.specs.Prelude.{◌≡◌, ◌≤◌, false, true, IfOk, IfErr, OnOk, map, option_map};
+ghost use Rattle.std.specs.Prelude.{◌≡◌, false, true, IfErr, OnOk, map, option_map};
 ghost use Rattle.std.specs.List.{list_any};
 ghost use Rattle.std.specs.Str.{bytes_eq};
 ghost use Rattle.toml.specs.Data.{get_member};
 ghost use Rattle.toml.specs.View.{view, table_view};
-ghost use Rattle.edit_model.specs.Settings.{has_foreign as has_foreign_key, number_of as number_by, within as number_within, value_at as value_by, at_key};
-ghost use Rattle.settings_reader.specs.Faults.{Finds};
+ghost use Rattle.edit_model.specs.Faults.{GivesSeen};
+ghost use Rattle.edit_model.specs.Settings.{has_foreign as has_foreign_key, number_of as number_by};
+ghost use Rattle.edit_model.specs.Settings.{within as number_within, value_at as value_by, at_key};
 
 use edit_model::SettingsFault;
 use toml::{Table, Value};
@@ -43,7 +44,8 @@ fn is_listed(names: &[&str], key: &str) -> bool
 /// # Errors
 /// `Key` where the key is absent.
 pub(crate) fn value_at<'a>(table: &'a Table, key: &str) -> Result<&'a Value, SettingsFault>
-    ensures { Finds (λ value. view value.now) (value_by key.now (table_view table.now)) result }
+    ensures { GivesSeen SettingsFault.NoMemory (λ value. view value.now)
+        (value_by key.now (table_view table.now)) result }
 {
     found_at(table, key).ok_or(SettingsFault::Key)
 }
@@ -66,9 +68,7 @@ pub(crate) fn number_at(
     least: u32,
     greatest: u32,
 ) -> Result<u32, SettingsFault>
-    ensures number { result ≡ at_key key.now silent (number_by least greatest) (table_view table.now) }
-    ensures within { least ≤ silent → silent ≤ greatest
-        → IfOk result (λ number. (least ≤ number) × (number ≤ greatest)) }
+    ensures { result ≡ at_key key.now silent (number_by least greatest) (table_view table.now) }
 {
     match found_at(table, key) {
         Some(value) => number_of(value, least, greatest),
@@ -81,16 +81,14 @@ pub(crate) fn number_at(
 /// # Errors
 /// `Value` where it is no whole number, `Limit` where the number is below `least` or above `greatest`.
 pub(crate) fn number_of(value: &Value, least: u32, greatest: u32) -> Result<u32, SettingsFault>
-    ensures number { result ≡ number_by least greatest (view value.now) }
-    ensures within { IfOk result (λ number. (least ≤ number) × (number ≤ greatest)) }
+    ensures { result ≡ number_by least greatest (view value.now) }
 {
     let number = value.as_integer().ok_or(SettingsFault::Value)?;
     number_within(number, least, greatest)
 }
 
 fn number_within(number: i64, least: u32, greatest: u32) -> Result<u32, SettingsFault>
-    ensures number { result ≡ number_within least greatest number }
-    ensures within { IfOk result (λ number. (least ≤ number) × (number ≤ greatest)) }
+    ensures { result ≡ number_within least greatest number }
 {
     let Ok(number) = u32::try_from(number) else {
         return Err(SettingsFault::Limit);

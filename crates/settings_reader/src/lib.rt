@@ -6,9 +6,11 @@ mod filters;
 mod keys;
 mod ranges;
 mod reading;
+mod settings;
 
-pub use edit_model::{Settings, SettingsFault};
+pub use edit_model::SettingsFault;
 pub use reading::{built_in, read_settings};
+pub use settings::Settings;
 
 #[cfg(test)]
 mod tests;

@@ -3,18 +3,16 @@
 ghost use Rattle.std.specs.Prelude.{◌≡◌};
 ghost use Rattle.toml.specs.View.{view, items_view};
 ghost use Rattle.edit_base.specs.declared.bounds.TheConstants.Limits.{RANGES};
-ghost use Rattle.edit_model.specs.Settings.{array_of as array_by, ranges_of as ranges_by, range_of as range_by, number_of as number_by, greatest_unit, each_of};
-ghost use Rattle.settings_reader.specs.Faults.{Gives, Finds};
+ghost use Rattle.edit_model.specs.Faults.{Gives, GivesSeen};
+ghost use Rattle.edit_model.specs.Settings.{array_of as array_by, ranges_of as ranges_by};
+ghost use Rattle.edit_model.specs.Settings.{number_of as number_by, greatest_unit};
 
-use crate::arrays::{few_of, values_of};
+use crate::arrays::{FromValue, each_of, few_of, values_of};
 use crate::keys::number_of;
 use edit_base::{Items, Limits};
 use edit_model::{SettingsFault, UnitRange};
 use std::alloc::Global;
 use toml::Value;
-
-/// The greatest UTF-16 unit.
-const GREATEST_UNIT: u32 = 65_535;
 
 /// The ranges of an array of pairs, in its order.
 ///
@@ -22,44 +20,38 @@ const GREATEST_UNIT: u32 = 65_535;
 /// `Value` where the value is no array; then `Limit` where it holds more than 1,024 values; then the first fault of
 /// the first of them that has one.
 pub(crate) fn ranges_of(alloc: Global, value: &Value) -> Result<Items<UnitRange>, SettingsFault>
-    ensures { Gives (ranges_by (view value.now)) result }
+    ensures { Gives SettingsFault.NoMemory (ranges_by (view value.now)) result }
 {
     let pairs = pairs_of(value)?;
-    each_range(alloc, pairs)
+    each_of(alloc, pairs)
 }
 
 fn pairs_of(value: &Value) -> Result<&[Value], SettingsFault>
-    ensures { Finds (λ pairs. items_view pairs.now) (array_by RANGES (view value.now)) result }
+    ensures { GivesSeen SettingsFault.NoMemory (λ pairs. items_view pairs.now)
+        (array_by RANGES (view value.now)) result }
 {
-    few_of(values_of(value)?, Limits::RANGES)
+    let values = values_of(value)?;
+    few_of(values, Limits::RANGES)
 }
 
-fn each_range(alloc: Global, pairs: &[Value]) -> Result<Items<UnitRange>, SettingsFault>
-    ensures { Gives (each_of range_by (items_view pairs.now)) result }
-{
-    let mut ranges = Items::from_vec(Vec::new(alloc));
-    for pair in pairs {
-        ranges
-            .push(range_of(pair)?)
-            .map_err(|_| SettingsFault::NoMemory)?;
+impl FromValue for UnitRange {
+    ghost use Rattle.edit_model.specs.Settings.{range_of};
+
+    ghost reading = { range_of };
+
+    #[tactic(auto, using(crate::proofs::Pairs::pairs))]
+    fn from_value(_alloc: Global, value: &Value) -> Result<Self, SettingsFault> {
+        let [low, high] = values_of(value)? else {
+            return Err(SettingsFault::Value);
+        };
+        let low = unit_of(low)?;
+        let high = unit_of(high)?;
+        Ok(UnitRange { low, high })
     }
-    Ok(ranges)
-}
-
-#[tactic(auto, using(crate::proofs::Pairs::pairs))]
-fn range_of(value: &Value) -> Result<UnitRange, SettingsFault>
-    ensures { result ≡ range_by (view value.now) }
-{
-    let [low, high] = values_of(value)? else {
-        return Err(SettingsFault::Value);
-    };
-    let low = unit_of(low)?;
-    let high = unit_of(high)?;
-    Ok(UnitRange { low, high })
 }
 
 fn unit_of(value: &Value) -> Result<u16, SettingsFault>
     ensures { result ≡ number_by 0 greatest_unit (view value.now) }
 {
-    Ok(number_of(value, 0, GREATEST_UNIT)? as u16)
+    Ok(number_of(value, 0, u32::from(u16::MAX))? as u16)
 }

@@ -1,25 +1,29 @@
 //! From the bytes of a settings file to its settings or its first fault.
 
-ghost use Rattle.std.specs.Prelude.{◌≡◌, ◌<◌, ◌≤◌, ◌⊎◌, [], codes, length, IfOk, IfErr, IsOkAnd, Some, None};
+ghost use Rattle.std.specs.Prelude.{◌≡◌, ◌<◌, ◌⊎◌, [], codes, length, IfOk, IfErr, IsOkAnd, ok_or};
 ghost use Rattle.toml.specs.View.{table_view};
-ghost use Rattle.edit_model.specs.Settings.{toml_of, at_key, filters_of as filters_by, settings_of as settings_by, built_in as built_in_settings, read_settings as settings_of_bytes};
-ghost use Rattle.settings_reader.specs.Faults.{Gives};
+ghost use Rattle.edit_base.specs.declared.bounds.TheConstants.Limits.{SETTINGS_BYTES};
+ghost use Rattle.edit_model.specs.Faults.{Gives, GivesSeen};
+ghost use Rattle.edit_model.specs.Settings.{FitsLimits, toml_of, at_key, filters_of as filters_by};
+ghost use Rattle.edit_model.specs.Settings.{settings_of as settings_by, built_in as built_in_settings};
+ghost use Rattle.edit_model.specs.Settings.{read_settings as settings_of_bytes};
+ghost use Rattle.settings_reader.specs.Seen.{as_settings};
 
 use crate::filters::filters_of;
 use crate::keys::{found_at, number_at, only};
+use crate::settings::Settings;
 use edit_base::{Items, Limits, NoMemory};
-use edit_model::{Filter, Settings, SettingsFault};
+use edit_model::{Filter, SettingsFault};
 use std::alloc::Global;
 use toml::Table;
 
-/// The width of the layout where the settings are silent.
+// The width of the layout where the settings are silent.
 const WIDTH_DEFAULT: u32 = 400;
 
 /// The settings of a run without a file: edits nest 4 deep, a line is 400 wide, and there are no filters.
 pub fn built_in(alloc: Global) -> Result<Settings, NoMemory>
-    ensures settings { IsOkAnd result (λ settings. settings ≡ built_in_settings) }
-    ensures depth { IfOk result (λ settings. settings.depth ≤ 8) }
-    ensures width { IfOk result (λ settings. (1 ≤ settings.width) × (settings.width ≤ 16777216)) }
+    ensures settings { IsOkAnd result (λ settings. as_settings settings ≡ built_in_settings) }
+    ensures fits { IfOk result (λ settings. FitsLimits (as_settings settings)) }
 {
     Ok(Settings {
         depth: Limits::DEPTH_DEFAULT,
@@ -41,12 +45,10 @@ pub fn built_in(alloc: Global) -> Result<Settings, NoMemory>
 /// the array `ranges` of `allow`, at most 1,024 pairs of numbers 0 to 65,535. `NoMemory` where there is no memory.
 #[tactic(auto, unfolding(edit_model::specs::Settings::read_settings))]
 pub fn read_settings(alloc: Global, bytes: &[u8]) -> Result<Settings, SettingsFault>
-    ensures ok { IfOk result (λ settings. settings_of_bytes bytes.now ≡ Ok settings) }
+    ensures ok { IfOk result (λ settings. settings_of_bytes bytes.now ≡ Ok (as_settings settings)) }
     ensures err { IfErr result (λ it. (it ≡ SettingsFault.NoMemory) ⊎ (settings_of_bytes bytes.now ≡ Err it)) }
-    ensures long { 1048576 < length bytes.now → result ≡ Err SettingsFault.Limit }
-    ensures depth { IfOk result (λ settings. settings.depth ≤ 8) }
-    ensures width { IfOk result (λ settings. (1 ≤ settings.width) × (settings.width ≤ 16777216)) }
-    ensures filters { IfOk result (λ settings. length settings.filters ≤ 8) }
+    ensures long { SETTINGS_BYTES < length bytes.now → result ≡ Err SettingsFault.Limit }
+    ensures fits { IfOk result (λ settings. FitsLimits (as_settings settings)) }
 {
     if bytes.len() > Limits::SETTINGS_BYTES as usize {
         return Err(SettingsFault::Limit);
@@ -57,8 +59,8 @@ pub fn read_settings(alloc: Global, bytes: &[u8]) -> Result<Settings, SettingsFa
 
 #[tactic(auto, using(crate::proofs::Documents::documents))]
 fn table_of(alloc: Global, bytes: &[u8]) -> Result<Table, SettingsFault>
-    ensures ok { IfOk result (λ table. toml_of bytes.now ≡ Some (table_view table)) }
-    ensures err { IfErr result (λ it. (it ≡ SettingsFault.NoMemory) ⊎ ((it ≡ SettingsFault.Toml) × (toml_of bytes.now ≡ None))) }
+    ensures { GivesSeen SettingsFault.NoMemory (λ table. table_view table)
+        (ok_or (toml_of bytes.now) SettingsFault.Toml) result }
 {
     match toml::table_from_slice(alloc, bytes) {
         Ok(table) => Ok(table),
@@ -73,10 +75,7 @@ fn table_of(alloc: Global, bytes: &[u8]) -> Result<Table, SettingsFault>
 }
 
 fn settings_of(alloc: Global, table: &Table) -> Result<Settings, SettingsFault>
-    ensures settings { Gives (settings_by (table_view table.now)) result }
-    ensures depth { IfOk result (λ settings. settings.depth ≤ 8) }
-    ensures width { IfOk result (λ settings. (1 ≤ settings.width) × (settings.width ≤ 16777216)) }
-    ensures filters { IfOk result (λ settings. length settings.filters ≤ 8) }
+    ensures { GivesSeen SettingsFault.NoMemory as_settings (settings_by (table_view table.now)) result }
 {
     only(table, &["depth", "width", "filter"])?;
     let depth = number_at(table, "depth", Limits::DEPTH_DEFAULT, 0, Limits::DEPTH)?;
@@ -90,8 +89,7 @@ fn settings_of(alloc: Global, table: &Table) -> Result<Settings, SettingsFault>
 }
 
 fn filters_at(alloc: Global, table: &Table) -> Result<Items<Filter>, SettingsFault>
-    ensures filters { Gives (at_key (codes "filter") [] filters_by (table_view table.now)) result }
-    ensures few { IfOk result (λ filters. length filters ≤ 8) }
+    ensures { Gives SettingsFault.NoMemory (at_key (codes "filter") [] filters_by (table_view table.now)) result }
 {
     match found_at(table, "filter") {
         Some(value) => filters_of(alloc, value),

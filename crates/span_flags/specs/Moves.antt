@@ -1,9 +1,9 @@
 -- Where a move takes the end of a span, and the tables that agree with the end table.
-use Rattle.std.specs.Prelude.{ℕ, ◌≡◌, ◌+◌, ◌-◌, ◌≤◌, List, [], length, slice_index_or}
+use Rattle.std.specs.Prelude.{ℕ, ◌≡◌, ◌+◌, ◌-◌, ◌≤◌, true, List, [], length, slice_index_or}
 use Rattle.edit_model.specs.declared.kinds.EndKind.{EndKind}
 use Rattle.edit_model.specs.declared.kinds.EndKind.TheVariants.{Mark, Point, Paragraph}
 use Rattle.edit_model.specs.Boundaries.{next_boundary}
-use Rattle.edit_model.specs.EndTable.{shifted, end_of}
+use Rattle.edit_model.specs.EndTable.{shifted, end_of, is_pulled}
 use Rattle.span_flags.specs.declared.moves.Move.{Move}
 use Rattle.span_flags.specs.declared.moves.Move.TheVariants.{Stay, ToStart, ToGrownEnd, Shift, Pull}
 use Rattle.span_flags.specs.declared.places.PlaceClass.{PlaceClass}
@@ -26,6 +26,10 @@ abbrev pub IsEndTableMove : EndKind → PlaceClass → ℕ → ℕ → Move → 
 IsEndTableMove kind class cut n move = (x s e : ℕ) (units : List ℕ) → s ≤ e → e - s ≡ cut → x ≤ length units
     → class_of x s e (length units) ≡ class → place_of_move move x s e n units ≡ end_of kind x s e n units
 
+-- where this move pulls an end of this kind and class, it is a paragraph end that lies inside the range or at its end
+abbrev pub PullsAlone : EndKind → PlaceClass → Move → Type 0
+PullsAlone kind class move = (x s e length : ℕ) → class_of x s e length ≡ class → move ≡ Pull → (kind ≡ Paragraph) × (is_pulled x s e ≡ true)
+
 -- ---- tables
 
 -- the row of an end kind
@@ -42,6 +46,7 @@ abbrev pub IsEndTable : List (List Move) → Type 0
 IsEndTable rows = (kind : EndKind) (x s e n : ℕ) (units : List ℕ) → s ≤ e → x ≤ length units
     → place_of_move (cell rows kind (class_of x s e (length units))) x s e n units ≡ end_of kind x s e n units
 
--- no end but that of a paragraph is pulled
-abbrev pub PullsParagraphsAlone : List (List Move) → Type 0
-PullsParagraphsAlone rows = (kind : EndKind) (class : PlaceClass) → cell rows kind class ≡ Pull → kind ≡ Paragraph
+-- no end is pulled but that of a paragraph that lies inside the range or at its end
+abbrev pub PullsWhere : List (List Move) → Type 0
+PullsWhere rows = (kind : EndKind) (x s e length : ℕ) → cell rows kind (class_of x s e length) ≡ Pull
+    → (kind ≡ Paragraph) × (is_pulled x s e ≡ true)

@@ -1,7 +1,8 @@
 //! The flags word of a span: its kind, its priority and the mark of a composing text.
 
 ghost use Rattle.std.specs.Prelude.{◌≡◌, ◌%◌, ◌↔◌, false, IsTrue, IsErr, IfOk};
-ghost use Rattle.edit_model.specs.Flags.{end_kind, has_composing, has_refused_bit, is_bad, kind_named, kind_of, priority_of, start_kind};
+ghost use Rattle.edit_model.specs.Flags.{has_refused_bit, is_bad, kind_named, kind_of, priority_of};
+ghost use Rattle.edit_model.specs.Flags.{is_paragraph, is_point_mark, start_kind, end_kind};
 
 use edit_model::{EndKind, Kind};
 use std::marker::Model;
@@ -37,27 +38,6 @@ impl Flags {
     {
         self.word
     }
-
-    /// How the two ends of the span move.
-    pub fn kind(self) -> Kind
-        ensures { result ≡ kind_of self }
-    {
-        kind_of_word(self.word)
-    }
-
-    /// Spans of a higher priority come first.
-    pub fn priority(self) -> u8
-        ensures { result ≡ priority_of self }
-    {
-        priority_of_word(self.word)
-    }
-
-    /// Whether the span marks a composing text.
-    pub fn is_composing(self) -> bool
-        ensures { result ≡ has_composing self }
-    {
-        (self.word >> 8) & 1 == 1
-    }
 }
 
 /// The flags of a word.
@@ -87,6 +67,20 @@ pub fn priority_of_word(word: u32) -> u8
     ensures { result ≡ priority_of word }
 {
     ((word >> 16) & 0xff) as u8
+}
+
+/// Whether a span of this kind may not be empty.
+pub fn is_point_mark(kind: Kind) -> bool
+    ensures { result ≡ is_point_mark kind }
+{
+    matches!(kind, Kind::PointMark)
+}
+
+/// Whether the ends of a span of this kind stay at paragraph boundaries.
+pub fn is_paragraph(kind: Kind) -> bool
+    ensures { result ≡ is_paragraph kind }
+{
+    matches!(kind, Kind::Paragraph)
 }
 
 /// How the start of a span of this kind moves.

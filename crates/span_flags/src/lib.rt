@@ -1,14 +1,20 @@
-//! The flags words of spans, and the table of the moves that the ends of spans make at a replacement.
+//! The flags words of spans, the table of the moves that the ends of spans make at a replacement, and which spans lie
+//! over a range.
 #![tactic(auto)]
 
 mod flags;
 mod moves;
+mod over;
 mod places;
 
 pub use edit_model::{EndKind, Kind};
-pub use flags::{BadFlags, Flags, end_of_kind, flags_of, kind_of_word, priority_of_word, start_of};
+pub use flags::{
+    BadFlags, Flags, end_of_kind, flags_of, is_paragraph, is_point_mark, kind_of_word,
+    priority_of_word, start_of,
+};
 pub use moves::{Move, MoveTable, move_table, moved};
-pub use places::{PlaceClass, end_after, moved_to, place_class};
+pub use over::{is_layout, is_picked, is_watch, lies_over, touches};
+pub use places::{PlaceClass, end_after, is_pulled};
 
 #[cfg(test)]
 mod tests;

@@ -1,7 +1,7 @@
 //! The table of moves.
 
 ghost use Rattle.std.specs.Prelude.{◌≡◌, ◌<◌, [], slice_index_or};
-ghost use Rattle.span_flags.specs.Moves.{IsEndTable, IsEndTableMove, PullsParagraphsAlone, row_of};
+ghost use Rattle.span_flags.specs.Moves.{IsEndTable, IsEndTableMove, PullsAlone, PullsWhere, row_of};
 ghost use Rattle.span_flags.specs.Places.{column_of};
 
 use crate::places::PlaceClass;
@@ -51,7 +51,7 @@ impl<const ENDS: usize, const PLACES: usize> MoveTable<ENDS, PLACES> {
     }
 }
 
-/// A table, row by row, each behind the name of its end kind.
+// A table, row by row, each behind the name of its end kind.
 macro_rules! table {
     ($($end:ident: $($cell:ident)+;)+) => {
         MoveTable { rows: [$([$(Move::$cell),+]),+] }
@@ -61,7 +61,7 @@ macro_rules! table {
 /// The table of every move, with a row for each `EndKind` and a column for each `PlaceClass`.
 pub fn move_table() -> MoveTable<3, 7>
     ensures moves { IsEndTable result }
-    ensures pulls { PullsParagraphsAlone result }
+    ensures pulls { PullsWhere result }
 {
     table! {
         // Before, AtStart, Inside, AtEnd, Behind, Point, PointAtTextEnd
@@ -71,11 +71,11 @@ pub fn move_table() -> MoveTable<3, 7>
     }
 }
 
-/// How an end of this kind at this place moves when `cut` units become `grown` units. Neither number decides which move
-/// it is: they are part of what a move means.
+/// How an end of this kind at this place moves when `cut` units become `grown` units. Neither number decides which
+/// move it is: they are part of what a move means.
 pub fn moved(end_kind: EndKind, place: PlaceClass, cut: u32, grown: u32) -> Move
     ensures moves { IsEndTableMove end_kind place cut grown result }
-    ensures pulls { result ≡ Move.Pull → end_kind ≡ EndKind.Paragraph }
+    ensures pulls { PullsAlone end_kind place result }
 {
     move_table().at(row(end_kind), column(place))
 }

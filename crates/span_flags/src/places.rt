@@ -1,8 +1,8 @@
 //! Where the end of a span stands to a range that is replaced, and where it goes.
 
-ghost use Rattle.std.specs.Prelude.{◌≡◌, ◌≢◌, ◌<◌, ◌≤◌, ◌^◌, ℕ, List, length as length_of};
+ghost use Rattle.std.specs.Prelude.{◌≡◌, ◌<◌, ◌≤◌, ◌^◌, ℕ, true, List, length as length_of, Some, IfSome};
 ghost use Rattle.edit_model.specs.Boundaries.{next_boundary};
-ghost use Rattle.edit_model.specs.EndTable.{end_of};
+ghost use Rattle.edit_model.specs.EndTable.{end_of, is_pulled};
 ghost use Rattle.edit_model.specs.Replaced.{spliced_length};
 ghost use Rattle.span_flags.specs.Moves.{place_by};
 ghost use Rattle.span_flags.specs.Places.{class_of};
@@ -52,8 +52,8 @@ pub fn place_class(x: u32, start: u32, end: u32, length: u32) -> PlaceClass
     }
 }
 
-/// Where `way` takes the place `x` when the units from `start` to `end` become `grown` units. `boundary` is the place in
-/// the old text that an end is pulled to.
+/// Where `way` takes the place `x` when the units from `start` to `end` become `grown` units. `boundary` is the place
+/// in the old text that an end is pulled to.
 pub fn moved_to(way: Move, x: u32, start: u32, end: u32, grown: u32, boundary: u32) -> u32
     requires ordered { start ≤ end }
     requires fits { place_by way x start end grown boundary < 2 ^ 32 }
@@ -69,9 +69,16 @@ pub fn moved_to(way: Move, x: u32, start: u32, end: u32, grown: u32, boundary: u
     }
 }
 
+/// Whether a paragraph end at the place `x` is pulled: it lies inside the range or at its end.
+pub fn is_pulled(x: u32, start: u32, end: u32) -> bool
+    ensures { result ≡ is_pulled x start end }
+{
+    start < x && x <= end
+}
+
 /// Where an end of a span at the place `x` goes when the units from `start` to `end` of a text of `length` units become
-/// `grown` units. `boundary` is the least place behind `end` with `\n` right before it, else the length; only a
-/// paragraph end looks at it, so for the other kinds any place in the text will do.
+/// `grown` units. `boundary` is the least place behind `end` with `\n` right before it, else the length, where it was
+/// looked for; only a paragraph end that is pulled asks for it.
 pub fn end_after(
     end_kind: EndKind,
     x: u32,
@@ -79,19 +86,18 @@ pub fn end_after(
     end: u32,
     grown: u32,
     length: u32,
-    boundary: u32,
+    boundary: Option<u32>,
 ) -> u32
     requires ordered { start ≤ end }
     requires in_text { end ≤ length }
     requires place_in_text { x ≤ length }
-    requires boundary_in_text { boundary ≤ length }
+    requires boundary_in_text { IfSome boundary (λ at. at ≤ length) }
     requires fits { spliced_length length start end grown < 2 ^ 32 }
-    ensures place { (units : List ℕ) → length_of units ≡ length → boundary ≡ next_boundary units end
+    ensures { (units : List ℕ) → length_of units ≡ length
+        → (end_kind ≡ EndKind.Paragraph → is_pulled x start end ≡ true → boundary ≡ Some (next_boundary units end))
         → result ≡ end_of end_kind x start end grown units }
-    ensures unpulled { end_kind ≢ EndKind.Paragraph
-        → (units : List ℕ) → length_of units ≡ length → result ≡ end_of end_kind x start end grown units }
 {
     let place = place_class(x, start, end, length);
     let way = moved(end_kind, place, end - start, grown);
-    moved_to(way, x, start, end, grown, boundary)
+    moved_to(way, x, start, end, grown, boundary.unwrap_or(length))
 }

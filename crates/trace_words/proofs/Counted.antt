@@ -36,7 +36,8 @@ many : (values : List Value) (said : Option (List NewSpan)) → IfSome said (IsO
 many values None each over = refl
 many values (Some brought) each over = cond-false (leb (length brought) LINE_SPANS) (Some brought) None (grind (arith, nat_tests))
 
-pub spans_of-few : (value : Data) (values : List Value) → Some (items_view values) ≡ as_array value → length values ≤ LINE_SPANS → spans_of value ≡ spans_said (items_view values)
+pub spans_of-few : (value : Data) (values : List Value) → Some (items_view values) ≡ as_array value → length values ≤ LINE_SPANS
+    → spans_of value ≡ spans_said (items_view values)
 spans_of-few value values is within =
     ap (λ found. option_and_then as_few (option_and_then spans_said found)) (sym is) ∙ few values (spans_said (items_view values)) (one_each values) within
 

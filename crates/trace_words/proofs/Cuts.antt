@@ -1,5 +1,6 @@
 -- Texts cut at spaces.
-use Rattle.std.proofs.Common.{ℕ, suc, ◌≡◌, ◌+◌, ◌<◌, Bool, true, false, cond, eqb, List, [], ◌∷◌, length, take, drop, Option, Some, None, refl, sym, ap, ◌∙◌, Bor, add-one, arith}
+use Rattle.std.proofs.Common.{ℕ, suc, ◌≡◌, ◌+◌, ◌<◌, Bool, true, false, cond, eqb, List, [], ◌∷◌, length, take, drop, Option, Some, None}
+use Rattle.std.proofs.Common.{refl, sym, ap, ◌∙◌, Bor, add-one, arith}
 use Rattle.std.specs.Prelude.{MatchOption}
 use Rattle.std.specs.List.{position_or_len, before_first, after_first}
 use Rattle.edit_model.specs.Words.{words_of, into_word, what_by_words}
@@ -13,7 +14,8 @@ unfolding words_of
 whole [] none = refl
 whole (byte ∷ bytes) none = at (eqb byte 32) refl (whole bytes)
   where
-    at : (test : Bool) → eqb byte 32 ≡ test → (position_or_len is_space bytes ≡ length bytes → words_of bytes ≡ bytes ∷ []) → words_of (byte ∷ bytes) ≡ (byte ∷ bytes) ∷ []
+    at : (test : Bool) → eqb byte 32 ≡ test → (position_or_len is_space bytes ≡ length bytes → words_of bytes ≡ bytes ∷ [])
+        → words_of (byte ∷ bytes) ≡ (byte ∷ bytes) ∷ []
     at true is rest = absurd (let first : position_or_len is_space (byte ∷ bytes) ≡ 0 = rw is in omega arith)
     at false is rest =
         let further : position_or_len is_space (byte ∷ bytes) ≡ 1 + position_or_len is_space bytes = rw is in
@@ -33,7 +35,10 @@ parted (byte ∷ bytes) some = at (eqb byte 32) refl (parted bytes)
         let first : position_or_len is_space (byte ∷ bytes) ≡ 1 + position_or_len is_space bytes = rw is in
         let further : position_or_len is_space (byte ∷ bytes) ≡ suc (position_or_len is_space bytes) = omega (arith, first) in
         let front : before_first is_space (byte ∷ bytes) ≡ byte ∷ before_first is_space bytes = ap (λ n. take n (byte ∷ bytes)) further in
-        let behind : after_first is_space (byte ∷ bytes) ≡ after_first is_space bytes = ap (λ n. drop (n + 1) (byte ∷ bytes)) further ∙ ap (λ n. drop n (byte ∷ bytes)) (add-one (suc (position_or_len is_space bytes))) ∙ ap (λ n. drop n bytes) (sym (add-one (position_or_len is_space bytes))) in
+        let behind : after_first is_space (byte ∷ bytes) ≡ after_first is_space bytes =
+        ap (λ n. drop (n + 1) (byte ∷ bytes)) further
+        ∙ ap (λ n. drop n (byte ∷ bytes)) (add-one (suc (position_or_len is_space bytes)))
+        ∙ ap (λ n. drop n bytes) (sym (add-one (position_or_len is_space bytes))) in
         rw (front, behind, is) (ap (into_word byte) (rest (omega arith)))
 
 pub words-cut : (bytes : List ℕ) (parts : Option (Bor (List ℕ) × Bor (List ℕ)))

@@ -1,6 +1,7 @@
 pub mod Json
 pub mod Numbers
-pub mod Rows
 pub mod Cuts
-pub mod Faults
 pub mod Counted
+pub mod Rows
+pub mod Lines
+pub mod Values

@@ -1,5 +1,6 @@
 -- Numbers read from decimal digits.
-use Rattle.std.proofs.Common.{ℕ, ◌≡◌, ◌≢◌, ◌-◌, ◌+◌, ◌*◌, ◌≤◌, ◌&&◌, leb, List, Option, Some, None, Result, IfSome, fold, decimal, refl, sym, ap, ◌∙◌, arith, rules}
+use Rattle.std.proofs.Common.{ℕ, ◌≡◌, ◌≢◌, ◌-◌, ◌+◌, ◌*◌, ◌≤◌, ◌&&◌, leb, List, Option, Some, None, Result, IfSome, fold, decimal}
+use Rattle.std.proofs.Common.{refl, sym, ap, ◌∙◌, arith, rules}
 use Rattle.std.specs.Result.{result_ok}
 use Rattle.std.specs.Str.{bytes_eq}
 use Rattle.std.specs.Str.Parse.{AllDigits, ParsesUnsigned}
@@ -23,7 +24,8 @@ whole_number-decimal n text within is =
     let same = bytes_eq (decimal (digits_value text)) text in
     let small = leb (digits_value text) greatest_id in
     sym (cond-true (same && small) (Some (digits_value text)) None
-    (and_from same small ((bytes_eq-Decides (decimal (digits_value text)) text).1 (ap decimal value ∙ is)) (le-leb (digits_value text) greatest_id (omega arith)))
+    (and_from same small ((bytes_eq-Decides (decimal (digits_value text)) text).1 (ap decimal value ∙ is))
+    (le-leb (digits_value text) greatest_id (omega arith)))
     ∙ ap Some value)
 
 -- what is no number's own form reads as none

@@ -1,53 +1,41 @@
--- The rows of the table and the operations.
-use Rattle.std.proofs.Common.{ℕ, ◌≡◌, Bool, true, false, cond, List, [], ◌∷◌, map, Option, Some, option_map, refl, ap, ◌∙◌, rules}
-use Rattle.std.specs.Prelude.{IfSome}
-use Rattle.std.specs.List.{find, IsDistinct}
+-- The rows that the program holds beside those of the definition.
+use Rattle.std.proofs.Common.{◌≡◌, ◌||◌, Bool, not, List, [], ◌∷◌, map, ℕ, refl, sym, ap, ◌∙◌, String, Global, string_bytes}
+use Rattle.std.specs.Prelude.{codes}
+use Rattle.std.proofs.lemmas.Option.{slice_get-map}
+use Rattle.std.specs.List.{list_any}
 use Rattle.std.specs.Str.{bytes_eq}
-use Rattle.edit_model.specs.Operations.{Operation}
-use Rattle.trace_words.specs.declared.table.Operation as row
-use Rattle.trace_words.specs.Table.{Named, named, named_fields, shown, shown_field, table, operation_by}
+use Rattle.serde_json.specs.Data.{Members}
+use Rattle.serde_json.specs.View.{members_view}
+use Rattle.serde_json.specs.declared.value.Value.{Value}
+use Rattle.edit_model.specs.Operations.{Field}
+use Rattle.edit_model.specs.Reading.{is_known, has_foreign, is_missing}
+use Rattle.edit_model.proofs.Tests.{list_any-map}
+use Rattle.trace_words.specs.declared.table.OpField.{OpField}
+use Rattle.trace_words.specs.Table.{NamedField, named_field, shown_field, is_foreign, is_absent}
 
-abbrev by : row.Operation → Operation
-by it = operation_by it.kind
+-- some fields are those of a row, by names and by whether they have to stand
+abbrev AreFields : List OpField → List Field → Type 0
+AreFields fields row = map shown_field fields ≡ map named_field row
 
-abbrev Names : row.Operation → Type 0
-Names it = map shown_field it.fields.now ≡ named_fields (by it)
+-- a test by names alone finds the same in both
+both_find : (p : NamedField → Bool) (fields : List OpField) (row : List Field) → AreFields fields row
+    → list_any (λ field. p (shown_field field)) fields ≡ list_any (λ field. p (named_field field)) row
+both_find p fields row same = sym (list_any-map shown_field p fields) ∙ ap (list_any p) same ∙ list_any-map named_field p row
 
--- each row holds the names of its operation
-abbrev AreShown : List row.Operation → Type 0
-AreShown rows = map shown rows ≡ map named (map by rows)
+pub list_any-missing : (members : Members) (fields : List OpField) (row : List Field) → AreFields fields row
+    → list_any (λ field. is_absent members (shown_field field)) fields ≡ list_any (is_missing members) row
+list_any-missing members fields row same = both_find (is_absent members) fields row same
 
-tails : (first second : Named) (others more : List Named) → (first ∷ others) ≡ (second ∷ more) → others ≡ more
-tails first second others more same = cc
+foreign-is : (key : List ℕ) (fields : List OpField) (row : List Field) → AreFields fields row → is_foreign fields key ≡ not (is_known row key)
+foreign-is key fields row same =
+    ap (λ found. not (bytes_eq key (codes "op") || found)) (both_find (λ field. bytes_eq key field.name) fields row same)
 
-heads : (first second : Named) (others more : List Named) → (first ∷ others) ≡ (second ∷ more) → first ≡ second
-heads first second others more same = cc
+-- a member that is foreign among the keys of a map
+pub list_any-foreign : (entries : List (String Global × Value)) (fields : List OpField) (row : List Field) → AreFields fields row
+    → list_any (λ key. is_foreign fields (string_bytes key)) (map (λ it. it.0) entries) ≡ has_foreign row (members_view entries)
+list_any-foreign [] fields row same = refl
+list_any-foreign (first ∷ entries) fields row same =
+    ap (λ b. b || list_any (λ key. is_foreign fields (string_bytes key)) (map (λ it. it.0) entries)) (foreign-is (string_bytes first.0) fields row same)
+    ∙ ap (λ b. not (is_known row (string_bytes first.0)) || b) (list_any-foreign entries fields row same)
 
-found : (test : Bool) (it : row.Operation) (others : Option row.Operation) (more : Option Operation) → option_map by others ≡ more
-    → option_map by (cond test (Some it) others) ≡ cond test (Some (by it)) more
-found true it others more same = refl
-found false it others more same = same
-
-pub find-rows : (name : List ℕ) (rows : List row.Operation) → AreShown rows
-    → option_map by (find (λ it. bytes_eq it.name.now name) rows) ≡ find (λ it. bytes_eq it.name name) (map by rows)
-find-rows name [] same = refl
-find-rows name (first ∷ rows) same =
-    let head : shown first ≡ named (by first) = heads (shown first) (named (by first)) (map shown rows) (map named (map by rows)) same in
-    let tail : AreShown rows = tails (shown first) (named (by first)) (map shown rows) (map named (map by rows)) same in
-    found (bytes_eq first.name.now name) first (find (λ it. bytes_eq it.name.now name) rows) (find (λ it. bytes_eq it.name name) (map by rows)) (find-rows name rows tail)
-    ∙ ap (λ it. cond (bytes_eq it name) (Some (by first)) (find (λ it. bytes_eq it.name name) (map by rows))) (ap (λ it. it.name) head)
-
-chosen : (test : Bool) (it : row.Operation) (others : Option row.Operation) → Names it → IfSome others Names → IfSome (cond test (Some it) others) Names
-chosen true it others here there = here
-chosen false it others here there = there
-
-pub names-rows : (name : List ℕ) (rows : List row.Operation) → AreShown rows → IfSome (find (λ it. bytes_eq it.name.now name) rows) Names
-names-rows name [] same = tt
-names-rows name (first ∷ rows) same =
-    let head : shown first ≡ named (by first) = heads (shown first) (named (by first)) (map shown rows) (map named (map by rows)) same in
-    let tail : AreShown rows = tails (shown first) (named (by first)) (map shown rows) (map named (map by rows)) same in
-    chosen (bytes_eq first.name.now name) first (find (λ it. bytes_eq it.name.now name) rows) (ap (λ it. it.fields) head) (names-rows name rows tail)
-
-pub distinct : IsDistinct bytes_eq (map (λ it. it.name) table)
-unfolding IsDistinct
-distinct = search rules
+pub ruleset fields = (slice_get-map)

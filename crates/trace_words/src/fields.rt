@@ -1,23 +1,21 @@
 //! The fields of an object, each in its form.
 
-ghost use Rattle.std.specs.Prelude.{◌≡◌, option_map, option_and_then, ok_or};
+ghost use Rattle.std.specs.Prelude.{◌≡◌, pos, option_map, option_and_then};
 ghost use Rattle.serde_json.specs.Find.{as_str};
 ghost use Rattle.serde_json.specs.View.{view, items_view, members_view};
 ghost use Rattle.edit_model.specs.Words.{as_span};
-ghost use Rattle.edit_model.specs.Reading.{value_in, place_of, id_of, what_of, text_of, spans_said, spans_of};
-ghost use Rattle.trace_words.specs.Fields.{place_at, id_at, text_at, what_at, spans_at, Gives};
+ghost use Rattle.edit_model.specs.Reading.{what_of, spans_said, spans_of, value_in};
+ghost use Rattle.edit_model.specs.Reading.{number_found, place_found, word_found, what_found, text_found, spans_found};
+ghost use Rattle.trace_words.specs.Fields.{FindsNumber, FindsText};
 
 use crate::words::{span_from, what_from};
-use edit_base::{Items, Limits, NewSpan, What, units_of};
+use edit_base::{Incoming, Items, Limits, NewSpan, What, units_of};
 use edit_model::TraceFault;
 use serde_json::{Map, Value};
 use std::alloc::Global;
 
-/// An object of JSON.
+// An object of JSON.
 pub(crate) type Object = Map<String, Value>;
-
-/// As many units as a replacement may bring. No line within its limit has as many.
-const MOST_INCOMING: usize = 1_073_741_824;
 
 pub(crate) fn member<'a>(object: &'a Object, name: &str) -> Option<&'a Value>
     ensures { option_map (λ it. view it.now) result
@@ -26,24 +24,39 @@ pub(crate) fn member<'a>(object: &'a Object, name: &str) -> Option<&'a Value>
     object.get(name)
 }
 
-pub(crate) fn place_in(object: &Object, name: &str) -> Result<i32, TraceFault>
-    ensures { result ≡ place_at name.now (members_view object.now.entries) }
+// ---- numbers
+
+// The whole number of a field, from a least to a greatest one.
+fn number_in(object: &Object, name: &str, least: i64, greatest: i64) -> Result<i64, TraceFault>
+    ensures { FindsNumber (λ z. z)
+        (number_found least greatest name.now (members_view object.now.entries)) result }
 {
-    member(object, name)
-        .and_then(place_from)
-        .ok_or(TraceFault::Number)
+    match member(object, name).and_then(Value::as_i64) {
+        Some(number) if least <= number && number <= greatest => Ok(number),
+        _ => Err(TraceFault::Number),
+    }
 }
 
-pub(crate) fn id_in(object: &Object, name: &str) -> Result<u32, TraceFault>
-    ensures { result ≡ id_at name.now (members_view object.now.entries) }
+// A place.
+pub(crate) fn place_in(object: &Object, name: &str) -> Result<i32, TraceFault>
+    ensures { FindsNumber (λ z. z) (place_found name.now (members_view object.now.entries)) result }
 {
-    member(object, name)
-        .and_then(id_from)
-        .ok_or(TraceFault::Number)
+    let number = number_in(object, name, i64::from(i32::MIN), i64::from(i32::MAX))?;
+    Ok(number as i32)
 }
+
+// An id or a flags word.
+pub(crate) fn word_in(object: &Object, name: &str) -> Result<u32, TraceFault>
+    ensures { FindsNumber (λ n. pos n) (word_found name.now (members_view object.now.entries)) result }
+{
+    let number = number_in(object, name, 0, i64::from(u32::MAX))?;
+    Ok(number as u32)
+}
+
+// ---- texts
 
 pub(crate) fn what_in(object: &Object, name: &str) -> Result<What, TraceFault>
-    ensures { result ≡ what_at name.now (members_view object.now.entries) }
+    ensures { FindsText (what_found name.now (members_view object.now.entries)) result }
 {
     member(object, name)
         .and_then(what_from_value)
@@ -51,7 +64,7 @@ pub(crate) fn what_in(object: &Object, name: &str) -> Result<What, TraceFault>
 }
 
 pub(crate) fn text_in(alloc: Global, object: &Object, name: &str) -> Result<Items<u16>, TraceFault>
-    ensures { Gives (text_at name.now (members_view object.now.entries)) result }
+    ensures { FindsText (text_found name.now (members_view object.now.entries)) result }
 {
     let Some(text) = member(object, name).and_then(Value::as_str) else {
         return Err(TraceFault::Text);
@@ -59,7 +72,7 @@ pub(crate) fn text_in(alloc: Global, object: &Object, name: &str) -> Result<Item
     let Ok(units) = units_of(alloc, text) else {
         return Err(TraceFault::NoMemory);
     };
-    if units.len() > MOST_INCOMING {
+    if units.len() > Incoming::MOST as usize {
         return Err(TraceFault::Text);
     }
     Ok(Items::from_vec(units))
@@ -71,24 +84,12 @@ pub(crate) fn spans_in(
     object: &Object,
     name: &str,
 ) -> Result<Items<NewSpan>, TraceFault>
-    ensures { Gives (spans_at name.now (members_view object.now.entries)) result }
+    ensures { FindsText (spans_found name.now (members_view object.now.entries)) result }
 {
     match member(object, name) {
         Some(value) => spans_from(alloc, value),
         None => Ok(Items::from_vec(Vec::new(alloc))),
     }
-}
-
-fn place_from(value: &Value) -> Option<i32>
-    ensures { result ≡ place_of (view value.now) }
-{
-    i32::try_from(value.as_i64()?).ok()
-}
-
-fn id_from(value: &Value) -> Option<u32>
-    ensures { result ≡ id_of (view value.now) }
-{
-    u32::try_from(value.as_u64()?).ok()
 }
 
 fn what_from_value(value: &Value) -> Option<What>
@@ -101,7 +102,7 @@ fn what_from_value(value: &Value) -> Option<What>
 
 #[tactic(auto, using(crate::proofs::Counted::counted))]
 fn spans_from(alloc: Global, value: &Value) -> Result<Items<NewSpan>, TraceFault>
-    ensures { Gives (ok_or (spans_of (view value.now)) TraceFault.Text) result }
+    ensures { FindsText (spans_of (view value.now)) result }
 {
     let Some(values) = value.as_array() else {
         return Err(TraceFault::Text);
@@ -114,7 +115,7 @@ fn spans_from(alloc: Global, value: &Value) -> Result<Items<NewSpan>, TraceFault
 
 // The spans that these values say, one after another.
 fn each_span(alloc: Global, values: &[Value]) -> Result<Items<NewSpan>, TraceFault>
-    ensures { Gives (ok_or (spans_said (items_view values.now)) TraceFault.Text) result }
+    ensures { FindsText (spans_said (items_view values.now)) result }
 {
     let Ok(mut spans) = Vec::with_capacity(alloc, values.len()) else {
         return Err(TraceFault::NoMemory);

@@ -6,9 +6,9 @@ mod reading;
 mod table;
 mod words;
 
-pub use edit_model::{Command, TraceFault};
+pub use edit_model::{Command, Op, TraceFault};
 pub use reading::read_line;
-pub use table::{OpTable, op_table};
+pub use table::{OpField, OpTable, op_fields, op_name, op_table};
 
 #[cfg(test)]
 mod tests;

@@ -1,20 +1,24 @@
 //! What a line of a trace asks for.
 
-ghost use Rattle.std.specs.Prelude.{◌≡◌, ◌≢◌, IfOk, IfErr, IfSome, Some, None, Ok, Err, map, option_map, option_and_then, codes, string_bytes, is_none};
+ghost use Rattle.std.specs.Prelude.{◌≡◌, ◌≢◌, ◌<◌, IfOk, IfErr, Some, None, Ok, Err};
+ghost use Rattle.std.specs.Prelude.{length, option_map, option_and_then, codes, string_bytes};
 ghost use Rattle.std.specs.BTreeMap.{keys};
-ghost use Rattle.std.specs.List.{find, list_any};
-ghost use Rattle.edit_model.specs.Operations.{operations};
+ghost use Rattle.std.specs.List.{list_any};
 ghost use Rattle.std.specs.Str.{bytes_eq};
 ghost use Rattle.serde_json.specs.Find.{as_str};
 ghost use Rattle.serde_json.specs.View.{view, members_view};
-ghost use Rattle.edit_model.specs.Reading.{json_of, value_in, operation_of, read_object, read_command, incoming_of, IsFitting};
-ghost use Rattle.trace_words.specs.Table.{operation_by, shown_field, named_fields};
-ghost use Rattle.trace_words.specs.Fields.{read_fields, is_foreign, is_absent, Gives};
+ghost use Rattle.edit_model.specs.Faults.{Gives};
+ghost use Rattle.edit_model.specs.Operations.{operation};
+ghost use Rattle.edit_model.specs.Reading.{json_of, value_in, op_in, has_foreign, is_missing};
+ghost use Rattle.edit_model.specs.Reading.{first_fault, value_lines, field_lines, unless_fault};
+ghost use Rattle.edit_model.specs.Reading.{command_in, incoming_of};
+ghost use Rattle.edit_model.specs.Reading.{read_object, read_command, IsFitting};
+ghost use Rattle.trace_words.specs.Table.{shown_field, is_foreign, is_absent};
 
-use crate::fields::{Object, id_in, member, place_in, spans_in, text_in, what_in};
-use crate::table::{Field, Kind, Operation, rows};
+use crate::fields::{Object, member, place_in, spans_in, text_in, what_in, word_in};
+use crate::table::{OpField, op_fields, op_named};
 use edit_base::{Incoming, Items, Limits, NewSpan};
-use edit_model::{Command, TraceFault};
+use edit_model::{Command, Op, TraceFault};
 use serde_json::Value;
 use std::alloc::Global;
 
@@ -22,12 +26,14 @@ use std::alloc::Global;
 ///
 /// # Errors
 ///
-/// The faults are judged in the order of [`TraceFault`]. `NoMemory` may come in place of any other.
+/// The faults are judged in the order of [`TraceFault`]. `NoMemory` may come in place of any other
+/// but `LineTooLong`.
 #[tactic(auto, unfolding(edit_model::specs::Reading::read_command))]
 pub fn read_line(alloc: Global, bytes: &[u8]) -> Result<Command, TraceFault>
     ensures ok { IfOk result (λ asked. read_command bytes.now ≡ Ok asked) }
     ensures err { IfErr result
         (λ it. it ≢ TraceFault.NoMemory → read_command bytes.now ≡ Err it) }
+    ensures long { Limits.LINE_BYTES < length bytes.now → result ≡ Err TraceFault.LineTooLong }
     ensures fits { IfOk result IsFitting }
 {
     if bytes.len() > Limits::LINE_BYTES as usize {
@@ -59,71 +65,91 @@ fn value_of(alloc: Global, bytes: &[u8]) -> Result<Value, TraceFault>
 }
 
 fn command_of(alloc: Global, object: &Object) -> Result<Command, TraceFault>
-    ensures { Gives (read_object (Some (members_view object.now.entries))) result }
+    ensures { Gives TraceFault.NoMemory (read_object (Some (members_view object.now.entries))) result }
 {
-    let Some(operation) = operation_of(object) else {
+    let Some(op) = op_in(object) else {
         return Err(TraceFault::Op);
     };
-    if has_foreign(object, operation.fields) {
+    if has_foreign(object, op) {
         Err(TraceFault::Field)
-    } else if lacks_one(object, operation.fields) {
-        Err(TraceFault::Missing)
     } else {
-        read_fields(alloc, operation.kind, object)
+        read_known(alloc, op, object)
+    }
+}
+
+// The command of an object whose members are all known. What is missing has no value of its form either, so it is
+// looked for only where one was not read.
+fn read_known(alloc: Global, op: Op, object: &Object) -> Result<Command, TraceFault>
+    ensures { let members = members_view object.now.entries in
+        Gives TraceFault.NoMemory
+        (unless_fault (first_fault (field_lines (operation op).fields members)) (command_in op members))
+        result }
+{
+    match read_values(alloc, op, object) {
+        Ok(command) => Ok(command),
+        Err(fault) => {
+            if lacks_one(object, op) {
+                Err(TraceFault::Missing)
+            } else {
+                Err(fault)
+            }
+        }
     }
 }
 
 // The operation that `op` names.
-fn operation_of(object: &Object) -> Option<Operation>
-    ensures value { option_map (λ it. operation_by it.kind) result
-        ≡ operation_of (members_view object.now.entries) }
-    ensures names { IfSome result
-        (λ it. map shown_field it.fields.now ≡ named_fields (operation_by it.kind)) }
+fn op_in(object: &Object) -> Option<Op>
+    ensures { result ≡ op_in (members_view object.now.entries) }
 {
-    let name = op_of(object)?;
-    row_named(&rows(), name)
+    op_named(op_text(object)?)
 }
 
-fn op_of(object: &Object) -> Option<&str>
+fn op_text(object: &Object) -> Option<&str>
     ensures { option_map (λ it. it.now) result
         ≡ option_and_then as_str (value_in (codes "op") (members_view object.now.entries)) }
 {
     member(object, "op").and_then(Value::as_str)
 }
 
-fn row_named(rows: &[Operation], name: &str) -> Option<Operation>
-    ensures { result ≡ find (λ it. bytes_eq it.name.now name.now) rows.now }
+// Whether a member is neither `op` nor a field of the operation.
+fn has_foreign(object: &Object, op: Op) -> bool
+    ensures { result ≡ has_foreign (operation op).fields (members_view object.now.entries) }
 {
-    rows.iter().copied().find(|row| row.name == name)
+    has_other(object, op_fields(op))
 }
 
-fn has_foreign(object: &Object, fields: &[Field]) -> bool
-    ensures { result ≡ list_any (λ key. is_foreign (map shown_field fields.now) (string_bytes key)) (keys object.now) }
+fn has_other(object: &Object, fields: &[OpField]) -> bool
+    ensures { result ≡ list_any (λ key. is_foreign fields.now (string_bytes key)) (keys object.now) }
 {
     object.keys().any(|key| is_foreign(fields, key.as_str()))
 }
 
-// Whether a key is neither `op` nor a field.
-fn is_foreign(fields: &[Field], key: &str) -> bool
-    ensures { result ≡ is_foreign (map shown_field fields.now) key.now }
+fn is_foreign(fields: &[OpField], key: &str) -> bool
+    ensures { result ≡ is_foreign fields.now key.now }
 {
     key != "op" && !is_listed(fields, key)
 }
 
-fn is_listed(fields: &[Field], name: &str) -> bool
-    ensures { result ≡ list_any (λ it. bytes_eq it.name.now name.now) fields.now }
+fn is_listed(fields: &[OpField], key: &str) -> bool
+    ensures { result ≡ list_any (λ field. bytes_eq key.now field.name.now) fields.now }
 {
-    fields.iter().any(|field| field.name == name)
+    fields.iter().any(|field| key == field.name)
 }
 
-fn lacks_one(object: &Object, fields: &[Field]) -> bool
-    ensures { result ≡ list_any (λ it. is_absent (members_view object.now.entries) (shown_field it)) fields.now }
+// Whether a field of the operation has to stand, and doesn't.
+fn lacks_one(object: &Object, op: Op) -> bool
+    ensures { result ≡ list_any (is_missing (members_view object.now.entries)) (operation op).fields }
+{
+    has_absent(object, op_fields(op))
+}
+
+fn has_absent(object: &Object, fields: &[OpField]) -> bool
+    ensures { result ≡ list_any (λ field. is_absent (members_view object.now.entries) (shown_field field)) fields.now }
 {
     fields.iter().any(|field| is_absent(object, field))
 }
 
-// Whether a field has to stand, and doesn't.
-fn is_absent(object: &Object, field: &Field) -> bool
+fn is_absent(object: &Object, field: &OpField) -> bool
     ensures { result ≡ is_absent (members_view object.now.entries) (shown_field field.now) }
 {
     field.required && member(object, field.name).is_none()
@@ -131,38 +157,41 @@ fn is_absent(object: &Object, field: &Field) -> bool
 
 // ---- fields
 
-/// The value of a field in its form.
+// The value of a field in its form.
 macro_rules! field {
     ($alloc:expr, $object:expr, $name:expr, place) => { place_in($object, $name)? };
-    ($alloc:expr, $object:expr, $name:expr, id) => { id_in($object, $name)? };
+    ($alloc:expr, $object:expr, $name:expr, word) => { word_in($object, $name)? };
     ($alloc:expr, $object:expr, $name:expr, text) => { text_in($alloc, $object, $name)? };
     ($alloc:expr, $object:expr, $name:expr, what) => { what_in($object, $name)? };
     ($alloc:expr, $object:expr, $name:expr, spans) => { spans_in($alloc, $object, $name)? };
 }
 
-/// A command of fields, which are read in this order: numbers in front of texts.
+// A command of fields, which are read in this order: numbers in front of texts.
 macro_rules! command {
-    ($alloc:expr, $object:expr, { $($name:ident: $form:ident),+ } => $command:expr) => {{
-        $(let $name = field!($alloc, $object, stringify!($name), $form);)+
+    ($alloc:expr, $object:expr, { $($name:ident: $form:ident),* } => $command:expr) => {{
+        $(let $name = field!($alloc, $object, stringify!($name), $form);)*
         Ok($command)
     }};
 }
 
-// The command of a kind, or the fault of the first field without a value of its form.
-fn read_fields(alloc: Global, kind: Kind, object: &Object) -> Result<Command, TraceFault>
-    ensures { Gives (read_fields kind (members_view object.now.entries)) result }
+// The command of an operation, or the fault of the first field without a value of its form.
+fn read_values(alloc: Global, op: Op, object: &Object) -> Result<Command, TraceFault>
+    ensures { let members = members_view object.now.entries in
+        Gives TraceFault.NoMemory
+        (unless_fault (first_fault (value_lines (operation op).fields members)) (command_in op members))
+        result }
 {
-    match kind {
-        Kind::Replace =>
+    match op {
+        Op::Replace =>
             command!(alloc, object, { start: place, end: place, text: text, spans: spans }
             => Command::Replace { start, end, incoming: incoming_of(text, spans) }),
-        Kind::SetSpan =>
-            command!(alloc, object, { id: id, start: place, end: place, flags: id, what: what }
+        Op::SetSpan =>
+            command!(alloc, object, { id: word, start: place, end: place, flags: word, what: what }
             => Command::SetSpan { id, start, end, flags, what }),
-        Kind::RemoveSpan => command!(alloc, object, { id: id } => Command::RemoveSpan { id }),
-        Kind::SpansOver => command!(alloc, object, { start: place, end: place }
+        Op::RemoveSpan => command!(alloc, object, { id: word } => Command::RemoveSpan { id }),
+        Op::SpansOver => command!(alloc, object, { start: place, end: place }
             => Command::SpansOver { start, end }),
-        Kind::NextEdge => command!(alloc, object, { start: place, limit: place }
+        Op::NextEdge => command!(alloc, object, { start: place, limit: place }
             => Command::NextEdge { start, limit }),
     }
 }

@@ -1,20 +1,21 @@
 use super::*;
-use crate::table::rows;
 use edit_base::NewSpan;
 use std::alloc::{AllocError, Global};
 use std::test::Fail;
 
 #[test]
 fn the_table_has_each_operation_with_its_fields(rt: HostRuntime) -> Result<(), Fail> {
-    let want =
-        "replace start end text [spans]; set_span id start end flags what; remove_span id; spans_over start end; next_edge start limit; ";
+    let want = "replace start end text [spans]; set_span id start end flags what; \
+        remove_span id; spans_over start end; next_edge start limit; ";
+    let table = op_table();
     let mut words = String::new(rt.alloc());
-    let _table = op_table();
-    for row in &rows() {
-        words.push_str(row.name)?;
-        for field in row.fields {
-            let (open, close) = if field.required { ("", "") } else { ("[", "]") };
-            words.push_str(&format!(in rt.alloc(); " {open}{}{close}", field.name)?)?;
+    for at in 0..table.len() {
+        words.push_str(table.name(at).unwrap_or("none"))?;
+        for of in 0..table.field_count(at).unwrap_or(0) {
+            if let Some(OpField { name, required }) = table.field(at, of) {
+                let (open, close) = if required { ("", "") } else { ("[", "]") };
+                words.push_str(&format!(in rt.alloc(); " {open}{name}{close}")?)?;
+            }
         }
         words.push_str("; ")?;
     }

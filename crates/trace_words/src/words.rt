@@ -3,12 +3,13 @@
 ghost use Rattle.std.specs.Prelude.{◌≡◌, [], ◌∷◌, MatchOption, decimal};
 ghost use Rattle.std.specs.Str.{bytes_eq};
 ghost use Rattle.edit_base.specs.declared.bounds.TheConstants.Limits.{METRIC};
-ghost use Rattle.edit_model.specs.Words.{words_of, whole_number, greatest_id, greatest_byte, what_by_words, as_what, ordered_span, span_by_words, as_span};
+ghost use Rattle.edit_model.specs.Words.{words_of, whole_number, greatest_id, greatest_byte};
+ghost use Rattle.edit_model.specs.Words.{what_by_words, as_what, ordered_span, span_by_words, as_span};
 
 use edit_base::{NewSpan, What};
 use itoa::Buffer;
 
-/// The span that `ID START END FLAGS WHAT` says, with one space between words.
+// The span that `ID START END FLAGS WHAT` says, with one space between words.
 pub(crate) fn span_from(text: &str) -> Option<NewSpan>
     ensures { result ≡ as_span text.now }
 {
@@ -55,7 +56,7 @@ fn ordered_span(id: u32, start: u32, end: u32, flags: u32, what: What) -> Option
     }
 }
 
-/// What `tag N`, `face N`, `watch N`, `margin N N` or `float N N` says, with one space between words.
+// What `tag N`, `face N`, `watch N`, `margin N N` or `float N N` says, with one space between words.
 pub(crate) fn what_from(text: &str) -> Option<What>
     ensures { result ≡ as_what text.now }
 {

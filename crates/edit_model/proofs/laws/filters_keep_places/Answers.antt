@@ -1,5 +1,6 @@
 -- What filters keep, and where they take places.
 use Rattle.edit_model.proofs.FilterLaws.{takes_places, leaves_places, cuts_no_pair, brought-filtered}
+use Rattle.edit_model.proofs.Unfiltered.{does-unfiltered}
 use Rattle.edit_model.proofs.laws.filters_keep_places.Goals as goal
 
 pub returns-clause-in_order : goal.returns-clause-in_order
@@ -13,3 +14,7 @@ returns-clause-whole_pairs c = cuts_no_pair
 
 pub returns-clause-brought : goal.returns-clause-brought
 returns-clause-brought c = brought-filtered
+
+pub returns-clause-unfiltered : goal.returns-clause-unfiltered
+returns-clause-unfiltered c state slots asked =
+    let same = does-unfiltered state asked in (same.verdict slots, same.state_is, same.effect, same.number)

@@ -1,5 +1,8 @@
-use Rattle.edit_model.proofs.Newlines.{cut-trace_lines}
+use Rattle.edit_model.proofs.Newlines.{cut-trace_lines, open_line_left}
 use Rattle.edit_model.proofs.laws.lines_are_cut_at_newlines.Goals as goal
 
-pub returns : goal.returns
-returns c = cut-trace_lines
+pub returns-clause-whole : goal.returns-clause-whole
+returns-clause-whole c = cut-trace_lines
+
+pub returns-clause-over_limit : goal.returns-clause-over_limit
+returns-clause-over_limit c = open_line_left

@@ -4,4 +4,4 @@ use Rattle.input_filters.proofs.Walk.{Reached}
 use Rattle.input_filters.proofs.filtering.filter_all.Given as goal
 
 abbrev pub invariant-loop-filter : goal.invariant-loop-filter
-invariant-loop-filter l = Reached l.others l.incoming (take l.filter-index l.filters) l.units.items l.spans.items
+invariant-loop-filter l = Reached l.others l.incoming (take l.filter-index l.filters) l.brought

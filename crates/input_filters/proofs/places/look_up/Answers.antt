@@ -13,7 +13,8 @@ pub bounds-counts-span : goal.bounds-counts-span
 bounds-counts-span c = rw (maps_read c.loop-span.invariant blank) (c.requires.inside c.loop-span.span-index blank (omega (arith, c.loop-span.invariant.long))).0
 
 pub bounds-counts-span-in-loop-span : goal.bounds-counts-span-in-loop-span
-bounds-counts-span-in-loop-span c = rw (maps_read c.loop-span.invariant blank) (c.requires.inside c.loop-span.span-index blank (omega (arith, c.loop-span.invariant.long))).1
+bounds-counts-span-in-loop-span c =
+    rw (maps_read c.loop-span.invariant blank) (c.requires.inside c.loop-span.span-index blank (omega (arith, c.loop-span.invariant.long))).1
 
 pub loop-span-preserved : goal.loop-span-preserved
 loop-span-preserved c = maps_more c.loop-span.invariant _ blank (omega arith) refl

@@ -3,8 +3,8 @@ use Rattle.std.proofs.Common.{◌++◌, [], ◌∷◌, get_or, take, length, ap,
 use Rattle.std.proofs.lemmas.List.{length-map}
 use Rattle.edit_base.specs.declared.kinds.What.TheVariants.{Tag}
 use Rattle.edit_base.specs.declared.rows.NewSpan.{NewSpan}
-use Rattle.edit_model.specs.Changed.{span_of}
-use Rattle.replace_engine.specs.Rows.{spans_in}
+use Rattle.edit_model.specs.Rows.{span_of}
+use Rattle.edit_model.specs.Rows.{spans_in}
 use Rattle.replace_engine.specs.Arrivals.{arrivals}
 use Rattle.replace_engine.proofs.Arrived.{next_arrives, next_within}
 use Rattle.replace_engine.proofs.arriving.attach_spans.Goals as goal
@@ -49,7 +49,8 @@ loop-span-preserved c =
     let next = next_arrives c.args.cut.now old c.args.spans.now c.loop-span.span-index blank (omega arith) now c.loop-span.invariant.rows in
     let one = arrivals c.args.cut.now now (get_or c.args.spans.now c.loop-span.span-index blank ∷ []) in
     record {
-      rows = c.attach_span.ensures.rows ∙ ap (λ list. list ++ one) c.loop-span.invariant.rows ∙ append_assoc old before one ∙ ap (λ list. old ++ list) (sym next);
+      rows = c.attach_span.ensures.rows ∙ ap (λ list. list ++ one) c.loop-span.invariant.rows ∙ append_assoc old before one
+          ∙ ap (λ list. old ++ list) (sym next);
       added = c.attach_span.ensures.added ∙ ap (λ list. list ++ one) c.loop-span.invariant.added ∙ sym next;
       capacity = omega (arith, c.loop-span.invariant.capacity, c.attach_span.ensures.capacity);
       kept = omega (arith, c.loop-span.invariant.kept, c.attach_span.ensures.kept);

@@ -1,6 +1,6 @@
 -- The spans so far that arrive stand behind the rows and are told of.
 use Rattle.std.proofs.Common.{◌≡◌, ◌≤◌, ◌++◌, take, vec_capacity}
-use Rattle.replace_engine.specs.Rows.{spans_in}
+use Rattle.edit_model.specs.Rows.{spans_in}
 use Rattle.replace_engine.specs.Arrivals.{arrivals}
 use Rattle.replace_engine.proofs.arriving.attach_spans.Given as goal
 

@@ -13,7 +13,8 @@ blank = record { id = 0; start = 0; end = 0; flags = 0; what = Tag 0 }
 
 pub loop-at-preserved : goal.loop-at-preserved
 loop-at-preserved c =
-    let more = count-more c.args.cut.now (stayed c.args.cut.now c.args.rows.now) c.args.spans.now c.loop-at.at blank (omega arith) c.arrives.result c.loop-at.count c.loop-at.invariant.count c.arrives.ensures in
+    let more = count-more c.args.cut.now (stayed c.args.cut.now c.args.rows.now) c.args.spans.now c.loop-at.at blank
+    (omega arith) c.arrives.result c.loop-at.count c.loop-at.invariant.count c.arrives.ensures in
     let counted = λ (arrives : Bool). cond arrives (c.loop-at.count + 1) c.loop-at.count in
     elim c.if-arrives.branch [
       | then-arrives w ↦ record { count = w.count-is ∙ ap counted (sym w.if-arrives.true) ∙ more; few = rw w.count-is (omega arith) }

@@ -2,7 +2,7 @@
 use Rattle.std.proofs.Common.{◌≡◌, take}
 use Rattle.std.specs.List.{filter}
 use Rattle.edit_model.specs.Over.{edges, least}
-use Rattle.replace_engine.specs.Rows.{spans_in}
+use Rattle.edit_model.specs.Rows.{spans_in}
 use Rattle.replace_engine.proofs.Edges.{lies_between}
 use Rattle.replace_engine.proofs.queries.next_edge.Given as goal
 

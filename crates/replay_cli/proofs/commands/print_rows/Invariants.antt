@@ -1,7 +1,7 @@
 use Rattle.std.proofs.Common.{◌≡◌, ◌++◌, take}
 use Rattle.std.specs.List.{flat_map}
 use Rattle.edit_model.specs.Printed.{span_line}
-use Rattle.replace_engine.specs.Rows.{spans_in}
+use Rattle.edit_model.specs.Rows.{spans_in}
 use Rattle.replay_cli.proofs.commands.print_rows.Given as goal
 
 abbrev pub invariant-loop-row : goal.invariant-loop-row

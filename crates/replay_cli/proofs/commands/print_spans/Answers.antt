@@ -5,7 +5,7 @@ use Rattle.std.specs.List.{flat_map}
 use Rattle.std.proofs.lemmas.List.{flat_map_more, take_more}
 use Rattle.std.proofs.lemmas.Option.{slice_get_within, get_or_from_slice_get}
 use Rattle.edit_model.specs.State.{Span}
-use Rattle.edit_model.specs.Changed.{span_of}
+use Rattle.edit_model.specs.Rows.{span_of}
 use Rattle.edit_model.specs.Printed.{span_line}
 use Rattle.replay_cli.proofs.commands.print_spans.Goals as goal
 

@@ -2,7 +2,7 @@
 use Rattle.std.proofs.Common.{arith, ap, length}
 use Rattle.std.proofs.lemmas.List.{length-map}
 use Rattle.edit_base.specs.declared.rows.Pick.TheVariants.{All}
-use Rattle.edit_model.specs.Changed.{span_of}
+use Rattle.edit_model.specs.Rows.{span_of}
 use Rattle.edit_model.proofs.OverLists.{length-over-le}
 use Rattle.replay_cli.proofs.commands.print_spans_over.Goals as goal
 

@@ -1,6 +1,8 @@
 -- The names differ.
-use Rattle.trace_words.proofs.Rows.{distinct}
+use Rattle.std.specs.List.{IsDistinct}
+use Rattle.std.proofs.Common.{rules}
 use Rattle.trace_words.proofs.table.op_table.Goals as goal
 
 pub returns-clause-names : goal.returns-clause-names
-returns-clause-names c = rw c.rows.ensures.names distinct
+unfolding IsDistinct
+returns-clause-names c = search rules

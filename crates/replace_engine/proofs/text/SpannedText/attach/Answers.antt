@@ -2,7 +2,7 @@
 use Rattle.std.proofs.Common.{◌≡◌, rules, ap}
 use Rattle.edit_model.specs.Changed.{stepped}
 use Rattle.edit_model.proofs.EditedStates.{well_formed-stepped, seated-stepped}
-use Rattle.replace_engine.specs.Rows.{state_of}
+use Rattle.edit_model.specs.Rows.{state_of}
 use Rattle.replace_engine.specs.Lines.{set_of}
 use Rattle.replace_engine.proofs.Sound.{formed_as, seated_as, spare_set}
 use Rattle.replace_engine.proofs.text.SpannedText.attach.Goals as goal
@@ -21,12 +21,12 @@ returns-clause-well_formed c =
     (well_formed-stepped c.args.self.now.state c.args.slots (set_of c.args.asked.now) c.requires.done tt (rw (← before c) c.self.invariant.formed))
 
 pub invariant_of-self-2 : goal.invariant_of-self-2
-invariant_of-self-2 c = record { formed = returns-clause-well_formed c; room = c.set_row.ensures.told }
+invariant_of-self-2 c = record { formed = returns-clause-well_formed c; room = c.set_row.ensures.told; told = c.set_row.ensures.tells c.self.invariant.told }
 
 pub returns-clause-seated : goal.returns-clause-seated
 returns-clause-seated c = λ seated.
     seated_as c.args.slots _ _ (ap (λ state. state.spans) (after c))
-    (seated-stepped c.args.self.now.state c.args.slots (set_of c.args.asked.now) c.requires.done (rw (← before c) c.self.invariant.formed) seated)
+    (seated-stepped c.args.self.now.state c.args.slots (set_of c.args.asked.now) c.requires.done seated)
 
 pub returns-clause-spare_spans : goal.returns-clause-spare_spans
 returns-clause-spare_spans c =

@@ -4,7 +4,7 @@ use Rattle.edit_model.specs.declared.steps.Step.TheVariants as step
 use Rattle.edit_model.specs.Changed.{stepped}
 use Rattle.edit_model.proofs.EditedStates.{well_formed-stepped}
 use Rattle.edit_model.proofs.AttachedSpans.{seated-without_span}
-use Rattle.replace_engine.specs.Rows.{state_of}
+use Rattle.edit_model.specs.Rows.{state_of}
 use Rattle.replace_engine.proofs.Sound.{formed_as, seated_as, sound_with}
 use Rattle.replace_engine.proofs.text.SpannedText.detach.Goals as goal
 
@@ -22,7 +22,8 @@ returns-clause-well_formed c =
     (well_formed-stepped c.args.self.now.state 0 (step.Remove c.args.id) c.requires tt (rw (← before c) c.self.invariant.formed))
 
 pub invariant_of-self : goal.invariant_of-self
-invariant_of-self c = sound_with _ _ _ c.self.inside.change (length c.self.inside.rows.items) c.remove_row.ensures.fewer c.remove_row.ensures.lists c.self.invariant.room (returns-clause-well_formed c)
+invariant_of-self c = sound_with _ _ _ c.self.inside.change (length c.self.inside.rows.items) c.remove_row.ensures.fewer c.remove_row.ensures.lists
+    c.self.invariant.room (returns-clause-well_formed c) c.remove_row.ensures.tells
 
 pub returns-clause-seated : goal.returns-clause-seated
 unfolding stepped

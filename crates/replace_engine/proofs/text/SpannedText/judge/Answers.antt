@@ -1,6 +1,6 @@
 -- The state is that of the units and rows.
 use Rattle.std.proofs.Common.{◌≡◌, ap, ◌∙◌, rules}
-use Rattle.replace_engine.specs.Rows.{state_of}
+use Rattle.edit_model.specs.Rows.{state_of}
 use Rattle.replace_engine.proofs.text.SpannedText.judge.Goals as goal
 
 pub returns-in-Replace : goal.returns-in-Replace

@@ -1,0 +1,11 @@
+//! The operations of a trace.
+
+/// An operation. What it is called and which fields it has is said by the table of operations.
+#[derive(Clone, Copy, Debug, PartialEq, Eq)]
+pub enum Op {
+    Replace,
+    SetSpan,
+    RemoveSpan,
+    SpansOver,
+    NextEdge,
+}

@@ -1,0 +1,40 @@
+-- Some spans come, and behind them the composing region.
+use Rattle.std.proofs.Common.{◌≡◌, ◌++◌, ◌+◌, [], append_assoc, ap, sym, ◌∙◌, length, arith}
+use Rattle.std.specs.Option.{option_to_list}
+use Rattle.edit_model.specs.Rows.{spans_in}
+use Rattle.replace_engine.specs.Arrivals.{arrivals}
+use Rattle.replace_engine.proofs.Arrived.{arrivals-append, length-arrivals-append, length-came}
+use Rattle.replace_engine.proofs.arriving.attach_coming.Goals as goal
+
+pub attach_region-requires-clause-room : goal.attach_region-requires-clause-room
+attach_region-requires-clause-room c =
+    let old = spans_in c.args.rows.now.items in
+    rw c.attach_spans.ensures.rows
+    (omega (
+      arith,
+      c.requires.room,
+      c.attach_spans.ensures.capacity,
+      length-came c.attach_spans.new.rows.items c.args.rows.now.items (arrivals c.args.cut.now old c.args.coming.now.spans.now) c.attach_spans.ensures.rows,
+      length-arrivals-append c.args.cut.now old c.args.coming.now.spans.now (option_to_list c.args.coming.now.region),
+    ))
+
+pub attach_region-requires-clause-told : goal.attach_region-requires-clause-told
+attach_region-requires-clause-told c =
+    let old = spans_in c.args.rows.now.items in
+    rw c.attach_spans.ensures.rows
+    (omega (
+      arith,
+      c.requires.told,
+      c.attach_spans.ensures.kept,
+      length-came c.attach_spans.new.added.items [] (arrivals c.args.cut.now old c.args.coming.now.spans.now) c.attach_spans.ensures.added,
+      length-arrivals-append c.args.cut.now old c.args.coming.now.spans.now (option_to_list c.args.coming.now.region),
+    ))
+
+pub returns-clause-rows : goal.returns-clause-rows
+returns-clause-rows c =
+    let old = spans_in c.args.rows.now.items in
+    let region = option_to_list c.args.coming.now.region in
+    c.attach_region.ensures.rows
+    ∙ ap (λ spans. spans ++ arrivals c.args.cut.now spans region) c.attach_spans.ensures.rows
+    ∙ append_assoc old (arrivals c.args.cut.now old c.args.coming.now.spans.now) _
+    ∙ ap (λ came. old ++ came) (sym (arrivals-append c.args.cut.now old c.args.coming.now.spans.now region))
