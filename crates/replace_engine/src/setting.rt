@@ -16,8 +16,8 @@ use crate::room::{push_within, reserve_rows};
 use crate::telling::start_change;
 use edit_base::{NoMemory, SpanRow};
 
-/// The row comes to the place of the one with its id, else behind all others, and the change says so. Of an attached id,
-/// or where there is room for one more, it asks for no memory, and without memory nothing changes.
+/// The row comes to the place of the one with its id, else behind all others, and the change says so. Of an attached
+/// id, or where there is room for one more, it asks for no memory, and without memory nothing changes.
 pub fn set_row(rows: &mut Vec<SpanRow>, row: &SpanRow, change: &mut Change) -> Result<(), NoMemory>
     requires distinct { HasDistinctIds (spans_in rows.old.items) }
     requires few { length (spans_in rows.old.items) ≤ SPANS }

@@ -86,7 +86,8 @@ impl Cut<'_> {
     pub fn is_boundary_then(&self, at: u32) -> bool
         requires least { self.now.start ≤ at }
         requires greatest { at ≤ self.now.start + self.now.grown }
-        ensures { result ≡ is_boundary (spliced (joined self.now.text) self.now.start self.now.end self.now.brought.now) at }
+        ensures { result
+            ≡ is_boundary (spliced (joined self.now.text) self.now.start self.now.end self.now.brought.now) at }
     {
         if at - self.start == self.grown && self.end == self.text.len() {
             return true;
