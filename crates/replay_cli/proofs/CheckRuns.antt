@@ -23,20 +23,23 @@ check-nothing close number count = refl
 
 pub blank-none : (number : ℕ) (line : List ℕ) → blank ≡ line_of line → (close : ℕ → ℕ → Played) (count : ℕ) (lines : List (List ℕ))
     → check_lines close number count (line ∷ lines) ≡ check_lines close (number + 1) (count + 0) lines
-blank-none number line is close count lines = check-line close number count line lines blank is ∙ ap (λ n. check_lines close (number + 1) n lines) (sym (add-zero count))
+blank-none number line is close count lines = check-line close number count line lines blank is
+    ∙ ap (λ n. check_lines close (number + 1) n lines) (sym (add-zero count))
 
 pub command-one : (number : ℕ) (line : List ℕ) (asked : Command) → command asked ≡ line_of line → (close : ℕ → ℕ → Played) (count : ℕ) (lines : List (List ℕ))
     → check_lines close number count (line ∷ lines) ≡ check_lines close (number + 1) (count + 1) lines
 command-one number line asked is close count lines = check-line close number count line lines (command asked) is
 
-pub faulty-ends : (number : ℕ) (line : List ℕ) (kind : TraceFault) → faulty kind ≡ line_of line → (close : ℕ → ℕ → Played) (count : ℕ) (lines : List (List ℕ)) (known : Option (List ℕ))
+pub faulty-ends : (number : ℕ) (line : List ℕ) (kind : TraceFault) → faulty kind ≡ line_of line
+    → (close : ℕ → ℕ → Played) (count : ℕ) (lines : List (List ℕ)) (known : Option (List ℕ))
     → Writes (check_lines close number count (line ∷ lines)) (status.TraceFault number kind) known known
 faulty-ends number line kind is close count lines known =
     let e = check-line close number count line lines (faulty kind) is in
     (ap (λ played. played.ending) e, with_more-none known ∙ ap (λ played. with_more known (bytes_of played)) (sym e))
 
 -- behind the last line
-check-end : (whole : Played) (close : ℕ → ℕ → Played) (number count : ℕ) (lines : List (List ℕ)) → lines ≡ [] → whole ≡ check_lines close number count lines → whole ≡ close number count
+check-end : (whole : Played) (close : ℕ → ℕ → Played) (number count : ℕ) (lines : List (List ℕ)) → lines ≡ [] → whole ≡ check_lines close number count lines
+    → whole ≡ close number count
 check-end whole close number count lines none is = is ∙ ap (check_lines close number count) none ∙ check-nothing close number count
 
 cut-close : (is_cut : Bool) (trace rest : List ℕ) (number count : ℕ) → is_cut ≡ true → (is_cut ≡ true → open_line trace ≡ open_line rest)

@@ -85,12 +85,19 @@ ended_lines-none (byte ∷ bytes) none =
 abbrev with_end : List ℕ → List ℕ
 with_end line = line ++ 10 ∷ []
 
-open_line-at : (bytes rest : List ℕ) (end : ℕ) → end < length bytes → rest ≡ drop (suc end) bytes → ended_lines bytes ≡ take end bytes ∷ ended_lines rest → open_line bytes ≡ open_line rest
+open_line-at : (bytes rest : List ℕ) (end : ℕ) → end < length bytes → rest ≡ drop (suc end) bytes → ended_lines bytes ≡ take end bytes ∷ ended_lines rest
+    → open_line bytes ≡ open_line rest
 unfolding open_line
 open_line-at bytes rest end inside is lines =
     let m = length (flat_map with_end (ended_lines rest)) in
     let counted : length (flat_map with_end (take end bytes ∷ ended_lines rest)) ≡ suc end + m =
-    omega (arith, length-append (with_end (take end bytes)) (flat_map with_end (ended_lines rest)), length-append (take end bytes) (10 ∷ []), length-take end bytes) in
+    omega (
+      arith,
+      length-append (with_end (take end bytes)) (flat_map with_end (ended_lines rest)),
+      length-append (take end bytes) (10 ∷ []),
+      length-take end
+          bytes,
+    ) in
     ap (λ ls. drop (length (flat_map with_end ls)) bytes) lines ∙ ap (λ n. drop n bytes) counted ∙ sym (drop-drop m (suc end) bytes) ∙ ap (drop m) (sym is)
 
 pub ended_lines-end : (bytes : List ℕ) (end : ℕ) → position (λ byte. byte == 10) bytes ≡ Some end

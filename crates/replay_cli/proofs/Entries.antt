@@ -28,7 +28,8 @@ logged-is state asked verdict number is counts =
     ap (λ n. record { verdict = verdict; number = n }) counts ∙ ap (logged state asked) is
 
 -- the number of spans that would stand where there are too many for one more
-pub one-more : (state : State) (id : ℕ) (start end : ℤ) (flags : ℕ) (what : What) (verdict : Verdict) (count : ℕ) → length state.spans ≤ SPANS → count ≡ length state.spans
+pub one-more : (state : State) (id : ℕ) (start end : ℤ) (flags : ℕ) (what : What) (verdict : Verdict) (count : ℕ) → length state.spans ≤ SPANS
+    → count ≡ length state.spans
     → verdict ≡ judged state 0 (step.Set id start end flags what) → verdict ≡ Refused SpansFull → span_count_after_set state id ≡ count + 1
 one-more state id start end flags what verdict count few counted is full =
     let e : judged state 0 (step.Set id start end flags what) ≡ Refused SpansFull = cc in
@@ -61,13 +62,15 @@ no_filters [] none = refl
 no_filters (it ∷ filters) none = absurd (omega arith)
 
 -- the three tests of places
-judged-places : (order beyond below : Bool) → cond order (Refused Order) (cond beyond (Refused Beyond) (cond below (Refused Below) Done)) ≡ Done → not (order || beyond || below) ≡ true
+judged-places : (order beyond below : Bool) → cond order (Refused Order) (cond beyond (Refused Beyond) (cond below (Refused Below) Done)) ≡ Done
+    → not (order || beyond || below) ≡ true
 judged-places true beyond below is = absurd (cc)
 judged-places false true below is = absurd (cc)
 judged-places false false true is = absurd (cc)
 judged-places false false false is = refl
 
-refused-places : (order beyond below : Bool) → (cond order (Refused Order) (cond beyond (Refused Beyond) (cond below (Refused Below) Done)) ≡ Done → ⊥) → not (order || beyond || below) ≡ false
+refused-places : (order beyond below : Bool) → (cond order (Refused Order) (cond beyond (Refused Beyond) (cond below (Refused Below) Done)) ≡ Done → ⊥)
+    → not (order || beyond || below) ≡ false
 refused-places true beyond below undone = refl
 refused-places false true below undone = refl
 refused-places false false true undone = refl

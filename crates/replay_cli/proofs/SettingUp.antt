@@ -34,7 +34,8 @@ pub told-over : (told : Option (List ℕ)) (gained : List ℕ) (left : Option (L
 told-over None gained left gains = tt
 told-over (Some bytes) gained left gains = settings-long bytes (omega (arith, gains.1.1, gains.1.2))
 
-pub told-whole : (answer : Result Settings Status) (told : Option (List ℕ)) (gained bytes : List ℕ) (left : Option (List ℕ)) → Gains (Ok Whole) told SETTINGS_BYTES gained left
+pub told-whole : (answer : Result Settings Status) (told : Option (List ℕ)) (gained bytes : List ℕ) (left : Option (List ℕ))
+    → Gains (Ok Whole) told SETTINGS_BYTES gained left
     → bytes ≡ gained → Settles answer (read_settings bytes) → SetsUp answer (option_map read_settings told)
 told-whole (Ok it) None gained bytes left gains is settles = tt
 told-whole (Ok it) (Some known) gained bytes left gains is settles = ap read_settings (sym (is ∙ gains.0)) ∙ settles
@@ -82,11 +83,13 @@ names : (settings : Option (List ℕ)) (trace : List ℕ) → name_list settings
 names None trace = refl
 names (Some name) trace = refl
 
-begun-names : (settings : Option (List ℕ)) (trace : List ℕ) → map begun_name (settings_list settings) ++ begun_name trace ∷ [] ≡ map begun_name (name_list settings trace)
+begun-names : (settings : Option (List ℕ)) (trace : List ℕ)
+    → map begun_name (settings_list settings) ++ begun_name trace ∷ [] ≡ map begun_name (name_list settings trace)
 begun-names None trace = refl
 begun-names (Some name) trace = refl
 
-both-begun : (settings : Option (List ℕ)) (trace : List ℕ) (old mid new : List Asked) → mid ≡ old ++ map begun_name (settings_list settings) → new ≡ mid ++ begun_name trace ∷ []
+both-begun : (settings : Option (List ℕ)) (trace : List ℕ) (old mid new : List Asked) → mid ≡ old ++ map begun_name (settings_list settings)
+    → new ≡ mid ++ begun_name trace ∷ []
     → new ≡ old ++ map begun_name (name_list settings trace)
 both-begun settings trace old mid new first second =
     second ∙ ap (λ front. front ++ begun_name trace ∷ []) first
@@ -95,7 +98,8 @@ both-begun settings trace old mid new first second =
 
 -- the settings were read, and then the trace was asked for
 pub asks-both : (task : Task) (settings : Option (List ℕ)) (trace : List ℕ) (it : Settings) (answer : Status) (old mid new : List Asked)
-    → SetUpAsks settings (Ok it) old mid → TraceAsks trace answer mid new → AsksFor (Some (record { task = task; settings = settings; trace = trace })) answer old new
+    → SetUpAsks settings (Ok it) old mid → TraceAsks trace answer mid new
+    → AsksFor (Some (record { task = task; settings = settings; trace = trace })) answer old new
 asks-both task settings trace it status.Done old mid new first second = both-begun settings trace old mid new first second
 asks-both task settings trace it status.Usage old mid new first second = second
 asks-both task settings trace it (status.TraceFault line kind) old mid new first second = both-begun settings trace old mid new first second
@@ -123,7 +127,8 @@ asks-both task settings trace it status.NoMemory old mid new first (inr second) 
 asks-both task settings trace it status.TraceTooLong old mid new first second = both-begun settings trace old mid new first second
 
 -- the run stopped at the settings
-pub asks-stopped : (task : Task) (settings : Option (List ℕ)) (trace : List ℕ) (answer : Status) (old new : List Asked) → SetUpAsks settings (Err answer) old new
+pub asks-stopped : (task : Task) (settings : Option (List ℕ)) (trace : List ℕ) (answer : Status) (old new : List Asked)
+    → SetUpAsks settings (Err answer) old new
     → AsksFor (Some (record { task = task; settings = settings; trace = trace })) answer old new
 asks-stopped task settings trace status.Done old new asks = absurd asks
 asks-stopped task settings trace status.Usage old new asks = asks
@@ -149,7 +154,8 @@ asks-stopped task settings trace status.TraceTooLong old new asks = absurd asks
 -- ---- what a run leaves
 
 -- the run stopped at the settings
-pub leaves-stopped : (task : Task) (told : Option (Result plain.Settings SettingsFault)) (trace : Option (List ℕ)) (answer : Status) (left known : Option (List ℕ))
+pub leaves-stopped : (task : Task) (told : Option (Result plain.Settings SettingsFault)) (trace : Option (List ℕ)) (answer : Status)
+    (left known : Option (List ℕ))
     → SetsUp (Err answer) told → Leaves task told trace answer left known known
 leaves-stopped task None trace answer left known sets = tt
 leaves-stopped task (Some (Err found)) trace status.Done left known sets = sets
@@ -172,8 +178,10 @@ leaves-stopped task (Some (Ok it)) (Some bytes) status.NoMemory left known sets 
 leaves-stopped task (Some (Ok it)) trace status.TraceTooLong left known sets = absurd sets
 
 -- the settings were read, and the trace was run or checked
-pub leaves-run : (task : Task) (told : Option (Result plain.Settings SettingsFault)) (trace : Option (List ℕ)) (it : Settings) (answer : Status) (left old new : Option (List ℕ))
-    → SetsUp (Ok it) told → IsSet answer → IfSome trace (λ bytes. LeavesTrace (as_settings it) task bytes answer left old new) → Leaves task told trace answer left old new
+pub leaves-run : (task : Task) (told : Option (Result plain.Settings SettingsFault)) (trace : Option (List ℕ)) (it : Settings) (answer : Status)
+    (left old new : Option (List ℕ))
+    → SetsUp (Ok it) told → IsSet answer → IfSome trace (λ bytes. LeavesTrace (as_settings it) task bytes answer left old new)
+    → Leaves task told trace answer left old new
 leaves-run task None trace it answer left old new sets set leaves = tt
 leaves-run task (Some (Err found)) trace it answer left old new sets set leaves = absurd (cc)
 leaves-run task (Some (Ok other)) None it answer left old new sets set leaves = set
@@ -181,7 +189,8 @@ leaves-run task (Some (Ok other)) (Some bytes) it answer left old new sets set l
 
 -- ---- completeness
 
-complete-trace : (settings : plain.Settings) (task : Task) (bytes : List ℕ) (answer : Status) (left old new : Option (List ℕ)) → (given settings task bytes).ending ≡ finished → LeavesTrace settings task bytes answer left old new
+complete-trace : (settings : plain.Settings) (task : Task) (bytes : List ℕ) (answer : Status) (left old new : Option (List ℕ))
+    → (given settings task bytes).ending ≡ finished → LeavesTrace settings task bytes answer left old new
     → (answer ≡ status.ReadFault → ⊥) → (answer ≡ status.WriteFault → ⊥) → (answer ≡ status.Done) ⊎ (answer ≡ status.NoMemory)
 complete-trace settings task bytes status.Done left old new ends leaves unread unwritten = inl refl
 complete-trace settings task bytes status.Usage left old new ends leaves unread unwritten = absurd leaves
@@ -192,9 +201,12 @@ complete-trace settings task bytes status.WriteFault left old new ends leaves un
 complete-trace settings task bytes status.NoMemory left old new ends leaves unread unwritten = inr refl
 complete-trace settings task bytes status.TraceTooLong left old new ends leaves unread unwritten = let no = leaves.1.0 in absurd (cc)
 
-pub complete : (task : Task) (told : Option (Result plain.Settings SettingsFault)) (trace : Option (List ℕ)) (answer : Status) (left old new : Option (List ℕ)) → IsReady task told trace
-    → Leaves task told trace answer left old new → (answer ≡ status.ReadFault → ⊥) → (answer ≡ status.WriteFault → ⊥) → (answer ≡ status.Done) ⊎ (answer ≡ status.NoMemory)
+pub complete : (task : Task) (told : Option (Result plain.Settings SettingsFault)) (trace : Option (List ℕ)) (answer : Status) (left old new : Option (List ℕ))
+    → IsReady task told trace
+    → Leaves task told trace answer left old new → (answer ≡ status.ReadFault → ⊥) → (answer ≡ status.WriteFault → ⊥)
+    → (answer ≡ status.Done) ⊎ (answer ≡ status.NoMemory)
 complete task None trace answer left old new ready leaves unread unwritten = absurd ready
 complete task (Some (Err found)) trace answer left old new ready leaves unread unwritten = absurd ready
 complete task (Some (Ok it)) None answer left old new ready leaves unread unwritten = absurd ready
-complete task (Some (Ok it)) (Some bytes) answer left old new ready leaves unread unwritten = complete-trace it task bytes answer left old new ready leaves unread unwritten
+complete task (Some (Ok it)) (Some bytes) answer left old new ready leaves unread unwritten = complete-trace it task bytes answer left old new ready leaves
+    unread unwritten

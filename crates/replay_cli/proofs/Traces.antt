@@ -17,19 +17,27 @@ use Rattle.replay_cli.specs.declared.requests.Task.TheVariants.{Play, Check}
 use Rattle.replay_cli.specs.SetUps.{given_lines}
 use Rattle.replay_cli.specs.Runs.{given, Took, Writes, LeavesTrace, IsSet}
 
-given-within : (settings : Settings) (task : Task) (trace : List ℕ) → length trace ≤ TRACE_BYTES → given settings task trace ≡ given_lines settings task false trace
+given-within : (settings : Settings) (task : Task) (trace : List ℕ) → length trace ≤ TRACE_BYTES
+    → given settings task trace ≡ given_lines settings task false trace
 unfolding play check
 given-within settings Play trace within =
-    cond-false (nat_lt TRACE_BYTES (length trace)) (run_lines settings (overrun (open_line (within_limit trace))) 1 empty_state (ended_lines (within_limit trace))) (run_lines settings ended 1 empty_state (trace_lines trace)) (grind (arith, nat_tests))
+    cond-false (nat_lt TRACE_BYTES (length trace))
+    (run_lines settings (overrun (open_line (within_limit trace))) 1 empty_state (ended_lines (within_limit trace)))
+    (run_lines settings ended 1 empty_state (trace_lines trace)) (grind (arith, nat_tests))
 given-within settings Check trace within =
-    cond-false (nat_lt TRACE_BYTES (length trace)) (check_lines (overrun_check (open_line (within_limit trace))) 1 0 (ended_lines (within_limit trace))) (check_lines checked 1 0 (trace_lines trace)) (grind (arith, nat_tests))
+    cond-false (nat_lt TRACE_BYTES (length trace)) (check_lines (overrun_check (open_line (within_limit trace))) 1 0 (ended_lines (within_limit trace)))
+    (check_lines checked 1 0 (trace_lines trace)) (grind (arith, nat_tests))
 
-given-over : (settings : Settings) (task : Task) (trace : List ℕ) → TRACE_BYTES < length trace → given settings task trace ≡ given_lines settings task true (take TRACE_BYTES trace)
+given-over : (settings : Settings) (task : Task) (trace : List ℕ) → TRACE_BYTES < length trace
+    → given settings task trace ≡ given_lines settings task true (take TRACE_BYTES trace)
 unfolding play check
 given-over settings Play trace over =
-    cond-true (nat_lt TRACE_BYTES (length trace)) (run_lines settings (overrun (open_line (within_limit trace))) 1 empty_state (ended_lines (within_limit trace))) (run_lines settings ended 1 empty_state (trace_lines trace)) (grind (arith, nat_tests))
+    cond-true (nat_lt TRACE_BYTES (length trace))
+    (run_lines settings (overrun (open_line (within_limit trace))) 1 empty_state (ended_lines (within_limit trace)))
+    (run_lines settings ended 1 empty_state (trace_lines trace)) (grind (arith, nat_tests))
 given-over settings Check trace over =
-    cond-true (nat_lt TRACE_BYTES (length trace)) (check_lines (overrun_check (open_line (within_limit trace))) 1 0 (ended_lines (within_limit trace))) (check_lines checked 1 0 (trace_lines trace)) (grind (arith, nat_tests))
+    cond-true (nat_lt TRACE_BYTES (length trace)) (check_lines (overrun_check (open_line (within_limit trace))) 1 0 (ended_lines (within_limit trace)))
+    (check_lines checked 1 0 (trace_lines trace)) (grind (arith, nat_tests))
 
 -- what was taken of a trace within its limit, and of one over it
 took-whole : (trace : List ℕ) (left : Option (List ℕ)) → length trace ≤ TRACE_BYTES → left ≡ Some [] → Took trace left
@@ -50,7 +58,8 @@ leaves settings task trace status.NoMemory left old new within none uncut writes
 leaves settings task trace status.TraceTooLong left old new within none uncut writes = let no : false ≡ true = uncut refl in absurd (cc)
 
 leaves-front : (settings : Settings) (task : Task) (trace : List ℕ) (answer : Status) (left old new : Option (List ℕ)) → TRACE_BYTES < length trace
-    → TookMore TRACE_BYTES trace left → (answer ≡ status.Done → true ≡ false) → Writes (given settings task trace) answer old new → LeavesTrace settings task trace answer left old new
+    → TookMore TRACE_BYTES trace left → (answer ≡ status.Done → true ≡ false) → Writes (given settings task trace) answer old new
+    → LeavesTrace settings task trace answer left old new
 leaves-front settings task trace status.Done left old new over more undone writes = let no : true ≡ false = undone refl in absurd (cc)
 leaves-front settings task trace status.Usage left old new over more undone writes = writes
 leaves-front settings task trace (status.TraceFault line kind) left old new over more undone writes = (took-more trace left over more, writes)
@@ -61,8 +70,10 @@ leaves-front settings task trace status.NoMemory left old new over more undone w
 leaves-front settings task trace status.TraceTooLong left old new over more undone writes = (more, writes)
 
 -- read whole, and run or checked
-pub leaves-whole : (settings : Settings) (task : Task) (told : Option (List ℕ)) (gained trace : List ℕ) (answer : Status) (left old new : Option (List ℕ)) → length gained ≤ TRACE_BYTES → trace ≡ gained
-    → Gains (Ok Whole) told TRACE_BYTES gained left → (answer ≡ status.TraceTooLong → false ≡ true) → Writes (given_lines settings task false trace) answer old new
+pub leaves-whole : (settings : Settings) (task : Task) (told : Option (List ℕ)) (gained trace : List ℕ) (answer : Status) (left old new : Option (List ℕ))
+    → length gained ≤ TRACE_BYTES → trace ≡ gained
+    → Gains (Ok Whole) told TRACE_BYTES gained left → (answer ≡ status.TraceTooLong → false ≡ true)
+    → Writes (given_lines settings task false trace) answer old new
     → IfSome told (λ bytes. LeavesTrace settings task bytes answer left old new)
 leaves-whole settings task None gained trace answer left old new within is gains uncut writes = tt
 leaves-whole settings task (Some bytes) gained trace answer left old new within is gains uncut writes =
@@ -70,7 +81,8 @@ leaves-whole settings task (Some bytes) gained trace answer left old new within 
     leaves settings task bytes answer left old new (omega (arith, within, ap length gains.0)) gains.1 uncut (rw e at writes)
 
 -- more than the limit, and its front run or checked
-pub leaves-over : (settings : Settings) (task : Task) (told : Option (List ℕ)) (gained trace : List ℕ) (answer : Status) (left old new : Option (List ℕ)) → trace ≡ gained
+pub leaves-over : (settings : Settings) (task : Task) (told : Option (List ℕ)) (gained trace : List ℕ) (answer : Status) (left old new : Option (List ℕ))
+    → trace ≡ gained
     → Gains (Ok Over) told TRACE_BYTES gained left → (answer ≡ status.Done → true ≡ false) → Writes (given_lines settings task true trace) answer old new
     → IfSome told (λ bytes. LeavesTrace settings task bytes answer left old new)
 leaves-over settings task None gained trace answer left old new is gains undone writes = tt

@@ -104,12 +104,14 @@ Took trace left = (length trace ≤ TRACE_BYTES → left ≡ Some []) × (TRACE_
 abbrev pub LeavesTrace : Settings → Task → List ℕ → Status → Option (List ℕ) → Option (List ℕ) → Option (List ℕ) → Type 0
 LeavesTrace settings task trace status.Done left old new = (left ≡ Some []) × Writes (given settings task trace) status.Done old new
 LeavesTrace settings task trace status.Usage left old new = ⊥
-LeavesTrace settings task trace (status.TraceFault line kind) left old new = Took trace left × Writes (given settings task trace) (status.TraceFault line kind) old new
+LeavesTrace settings task trace (status.TraceFault line kind) left old new = Took trace left
+    × Writes (given settings task trace) (status.TraceFault line kind) old new
 LeavesTrace settings task trace (status.SettingsFault kind) left old new = ⊥
 LeavesTrace settings task trace status.ReadFault left old new = new ≡ old
 LeavesTrace settings task trace status.WriteFault left old new = Took trace left × Writes (given settings task trace) status.WriteFault old new
 LeavesTrace settings task trace status.NoMemory left old new = Writes (given settings task trace) status.NoMemory old new
-LeavesTrace settings task trace status.TraceTooLong left old new = TookMore TRACE_BYTES trace left × Writes (given settings task trace) status.TraceTooLong old new
+LeavesTrace settings task trace status.TraceTooLong left old new = TookMore TRACE_BYTES trace left
+    × Writes (given settings task trace) status.TraceTooLong old new
 
 -- where the settings have a fault, nothing of the trace is read and nothing written
 abbrev pub LeavesUnset : SettingsFault → Status → Option (List ℕ) → Option (List ℕ) → Type 0

@@ -1,6 +1,7 @@
 //! The lines of a trace, read and not run.
 
 ghost use Rattle.std.specs.Prelude.{ℕ, ◌≡◌, ◌≢◌, ◌≤◌, true, false, length, IfOk};
+ghost use Rattle.edit_base.specs.declared.bounds.TheConstants.Limits.{TRACE_BYTES};
 ghost use Rattle.edit_model.specs.Output.{check_lines, checked};
 ghost use Rattle.replay_io.specs.Outside.{Rose};
 ghost use Rattle.replay_cli.specs.Lines.{lines_in};
@@ -18,7 +19,7 @@ use std::alloc::Global;
 /// Reads the lines of a trace, or those of its first bytes where more was cut off, and writes how many commands there
 /// are.
 pub fn check_trace<K: Sink>(alloc: Global, trace: &[u8], is_cut: bool, sink: &mut K) -> Status
-    requires { length trace.now ≤ 268435456 }
+    requires { length trace.now ≤ TRACE_BYTES }
     ensures writes { Writes (check_lines (close_check is_cut trace.now) 1 0 (lines_in is_cut trace.now)) result
         (K.written sink.old) (K.written sink.new) }
     ensures whole { result ≡ Status.Done → is_cut ≡ false }

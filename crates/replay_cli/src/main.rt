@@ -8,15 +8,20 @@ ghost use Rattle.replay_cli.specs.Statuses.{code_of};
 
 mod checker;
 mod commands;
+mod edits;
+mod end_block;
 mod lines;
 mod player;
 mod printing;
+mod queries;
+mod ranges;
 mod requests;
 mod run;
 mod status;
 
 pub use checker::check_trace;
-pub use commands::{Buffers, print_end, run_command};
+pub use commands::{Buffers, run_command};
+pub use end_block::print_end;
 pub use lines::{TraceLine, is_blank_line, next_line, read_line};
 pub use player::{LineOutcome, play_lines, run_line, stop_at};
 pub use printing::{print_entry, print_header, print_units};

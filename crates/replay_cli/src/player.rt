@@ -2,6 +2,7 @@
 
 ghost use Rattle.settings_reader.specs.Seen.{as_settings};
 ghost use Rattle.std.specs.Prelude.{◌≡◌, ◌≢◌, ◌≤◌, true, false, List, Option, length, ℕ};
+ghost use Rattle.edit_base.specs.declared.bounds.TheConstants.Limits.{TRACE_BYTES};
 ghost use Rattle.edit_model.specs.Reading.{IsFitting};
 ghost use Rattle.edit_model.specs.Output.{command_bytes, state_behind, run_lines, ended, stopped, cut_off, too_long};
 ghost use Rattle.replay_io.specs.Outside.{Rose};
@@ -9,7 +10,8 @@ ghost use Rattle.replay_cli.specs.Runs.{Writes};
 ghost use Rattle.replay_cli.specs.Steps.{LineGives, CommandGives, close_of};
 ghost use Rattle.replay_cli.specs.Lines.{lines_in};
 
-use crate::commands::{Buffers, print_end, run_command};
+use crate::commands::{Buffers, run_command};
+use crate::end_block::print_end;
 use crate::lines::{TraceLine, next_line, read_line};
 use crate::status::Status;
 use edit_base::{Limits, NoMemory, Steps};
@@ -29,8 +31,8 @@ pub enum LineOutcome {
     Stop(Status),
 }
 
-/// Runs the lines of a trace over a text under these settings, or those of its first bytes where more was cut off. The output of each command
-/// is written as soon as it is run, and the end block behind the last one.
+/// Runs the lines of a trace over a text under these settings, or those of its first bytes where more was cut off. The
+/// output of each command is written as soon as it is run, and the end block behind the last one.
 pub fn play_lines<K: Sink, L: Ledger>(
     alloc: Global,
     settings: &Settings,
@@ -40,8 +42,9 @@ pub fn play_lines<K: Sink, L: Ledger>(
     sink: &mut K,
     steps: &mut Steps<L>,
 ) -> Status
-    requires { length trace.now ≤ 268435456 }
-    ensures writes { Writes (run_lines (as_settings settings.now) (close_of is_cut trace.now) 1 text.old.state (lines_in is_cut trace.now)) result
+    requires { length trace.now ≤ TRACE_BYTES }
+    ensures writes { Writes (run_lines (as_settings settings.now) (close_of is_cut trace.now) 1 text.old.state
+        (lines_in is_cut trace.now)) result
         (K.written sink.old) (K.written sink.new) }
     ensures whole { result ≡ Status.Done → is_cut ≡ false }
     ensures cut { result ≡ Status.TraceTooLong → is_cut ≡ true }
@@ -107,7 +110,8 @@ pub fn run_line<K: Sink, L: Ledger>(
     sink: &mut K,
     steps: &mut Steps<L>,
 ) -> LineOutcome
-    ensures gives { LineGives (as_settings settings.now) number text.old.state line.now text.new.state result (K.written sink.old) (K.written sink.new) }
+    ensures gives { LineGives (as_settings settings.now) number text.old.state line.now text.new.state result
+        (K.written sink.old) (K.written sink.new) }
     ensures undone { result ≢ LineOutcome.Stop Status.Done }
     ensures uncut { result ≢ LineOutcome.Stop Status.TraceTooLong }
     ensures failed { result ≡ LineOutcome.Stop Status.WriteFault → Rose (K.faults sink.old) (K.faults sink.new) }
@@ -138,7 +142,8 @@ fn write_command<K: Sink, L: Ledger>(
     steps: &mut Steps<L>,
 ) -> LineOutcome
     requires { IsFitting command.now }
-    ensures gives { CommandGives (command_bytes (as_settings settings.now) number text.old.state command.now) (state_behind (as_settings settings.now) text.old.state command.now)
+    ensures gives { CommandGives (command_bytes (as_settings settings.now) number text.old.state command.now)
+        (state_behind (as_settings settings.now) text.old.state command.now)
         text.new.state result (K.written sink.old) (K.written sink.new) }
     ensures undone { result ≢ LineOutcome.Stop Status.Done }
     ensures uncut { result ≢ LineOutcome.Stop Status.TraceTooLong }
@@ -158,7 +163,8 @@ fn write_command<K: Sink, L: Ledger>(
 
 // Writes the end block.
 fn finish<K: Sink>(text: &SpannedText, out: &mut Vec<u8>, sink: &mut K) -> Status
-    ensures writes { (number : ℕ) → Writes (ended number text.now.state) result (K.written sink.old) (K.written sink.new) }
+    ensures writes { (number : ℕ) → Writes (ended number text.now.state) result (K.written sink.old)
+        (K.written sink.new) }
     ensures uncut { result ≢ Status.TraceTooLong }
     ensures failed { result ≡ Status.WriteFault → Rose (K.faults sink.old) (K.faults sink.new) }
     ensures quiet { result ≢ Status.WriteFault → K.faults sink.new ≡ K.faults sink.old }

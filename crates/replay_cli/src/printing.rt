@@ -382,7 +382,7 @@ fn push_escaped(unit: u16, out: &mut Vec<u8>) -> Result<(), NoMemory>
 {
     push("\\u", out)?;
     let digits = [
-        digit_of(unit / 4096),
+        digit_of(unit >> 12),
         digit_of(unit / 256 % 16),
         digit_of(unit / 16 % 16),
         digit_of(unit % 16),

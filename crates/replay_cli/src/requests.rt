@@ -10,7 +10,7 @@ ghost use Rattle.replay_cli.specs.Runs.{requested_by, named_task, settings_name}
 pub enum Task {
     /// It is run.
     Play,
-    /// It is read alone.
+    /// Its lines are read, and not run.
     Check,
 }
 

@@ -3,6 +3,7 @@
 ghost use Rattle.settings_reader.specs.Seen.{as_settings};
 ghost use Rattle.std.specs.Prelude.{◌≡◌, ◌≢◌, ◌≤◌, ◌<◌, ◌⊎◌, ◌↔◌, map, true, false, length, List, ℕ, Option, Some, None, IfSome, string_bytes};
 ghost use Rattle.std.specs.Option.{option_map};
+ghost use Rattle.edit_base.specs.declared.bounds.TheConstants.Limits.{TRACE_BYTES};
 ghost use Rattle.replay_io.specs.Outside.{Rose};
 ghost use Rattle.replay_cli.specs.Runs.{requested_by, AsksFor, Leaves, LeavesFor, LeavesTrace, IsComplete, IsSet, told_settings, Writes};
 ghost use Rattle.replay_cli.specs.SetUps.{SetsUp, SetUpAsks, TraceAsks, Settles, given_lines};
@@ -21,9 +22,10 @@ use std::alloc::Global;
 use std::marker::Brand;
 use std::sync::ledger::{Blank, Ledger};
 
-/// Runs the program on its words, its own name not among them. `play SETTINGS TRACE` reads the settings and the trace
-/// of these names from the store, runs the trace over an empty text under the settings and writes what each command prints, and the text
-/// and its spans at the end. `check SETTINGS TRACE` reads the trace alone and writes how many commands it has.
+/// Runs the program on its words, its own name not among them. Both tasks read the settings and the trace of these
+/// names from the store. `play SETTINGS TRACE` runs the trace over an empty text under the settings and writes what
+/// each command prints, and the text and its spans at the end. `check SETTINGS TRACE` runs no command and writes how
+/// many there are.
 pub fn run<S: Store, K: Sink>(
     alloc: Global,
     words: &[String],
@@ -34,8 +36,8 @@ pub fn run<S: Store, K: Sink>(
     ensures usage { (result ≡ Status.Usage) ↔ (requested_by (map string_bytes words.now) ≡ None) }
 
     // Where the store tells the settings and the trace: what was written, and what is left of the trace.
-    ensures leaves { LeavesFor (requested_by (map string_bytes words.now)) (S.stands store.old) result (S.left store.new)
-        (K.written sink.old) (K.written sink.new) }
+    ensures leaves { LeavesFor (requested_by (map string_bytes words.now)) (S.stands store.old) result
+        (S.left store.new) (K.written sink.old) (K.written sink.new) }
 
     // The causes of faults, that no fault is swallowed, and the names asked for.
     ensures read_fault { result ≡ Status.ReadFault → Rose (S.faults store.old) (S.faults store.new) }
@@ -81,7 +83,11 @@ fn run_request<S: Store, K: Sink>(
     ensures write_fault { result ≡ Status.WriteFault → Rose (K.faults sink.old) (K.faults sink.new) }
     ensures quiet_sink { result ≢ Status.WriteFault → K.faults sink.new ≡ K.faults sink.old }
     ensures stands { (name : List ℕ) → S.stands store.new name ≡ S.stands store.old name }
-    ensures asks { AsksFor (Some (record { task = task; settings = option_map (λ name. name.now) settings.entry; trace = trace.now }))
+    ensures asks { AsksFor (Some (record {
+      task = task;
+      settings = option_map (λ name. name.now) settings.entry;
+      trace = trace.now;
+    }))
         result (S.asked store.old) (S.asked store.new) }
 {
     match set_up(alloc, settings, store) {
@@ -97,7 +103,8 @@ fn set_up<S: Store>(
     store: &mut S,
 ) -> Result<Settings, Status>
     ensures told { SetsUp result (told_settings (option_map (λ name. name.now) settings.entry) (S.stands store.old)) }
-    ensures asks { SetUpAsks (option_map (λ name. name.now) settings.entry) result (S.asked store.old) (S.asked store.new) }
+    ensures asks { SetUpAsks (option_map (λ name. name.now) settings.entry) result (S.asked store.old)
+        (S.asked store.new) }
     ensures read_fault { result ≡ Err Status.ReadFault → Rose (S.faults store.old) (S.faults store.new) }
     ensures quiet_store { result ≢ Err Status.ReadFault → S.faults store.new ≡ S.faults store.old }
     ensures stands { (other : List ℕ) → S.stands store.new other ≡ S.stands store.old other }
@@ -155,7 +162,8 @@ fn run_trace<S: Store, K: Sink>(
     sink: &mut K,
 ) -> Status
     ensures leaves { IfSome (S.stands store.old trace.now)
-        (λ bytes. LeavesTrace (as_settings settings.now) task bytes result (S.left store.new) (K.written sink.old) (K.written sink.new)) }
+        (λ bytes. LeavesTrace (as_settings settings.now) task bytes result (S.left store.new) (K.written sink.old)
+        (K.written sink.new)) }
     ensures set { IsSet result }
     ensures read_fault { result ≡ Status.ReadFault → Rose (S.faults store.old) (S.faults store.new) }
     ensures quiet_store { result ≢ Status.ReadFault → S.faults store.new ≡ S.faults store.old }
@@ -184,8 +192,9 @@ fn run_bytes<K: Sink>(
     is_cut: bool,
     sink: &mut K,
 ) -> Status
-    requires { length bytes.now ≤ 268435456 }
-    ensures writes { Writes (given_lines (as_settings settings.now) task is_cut bytes.now) result (K.written sink.old) (K.written sink.new) }
+    requires { length bytes.now ≤ TRACE_BYTES }
+    ensures writes { Writes (given_lines (as_settings settings.now) task is_cut bytes.now) result (K.written sink.old)
+        (K.written sink.new) }
     ensures whole { result ≡ Status.Done → is_cut ≡ false }
     ensures cut { result ≡ Status.TraceTooLong → is_cut ≡ true }
     ensures failed { result ≡ Status.WriteFault → Rose (K.faults sink.old) (K.faults sink.new) }
@@ -208,11 +217,12 @@ fn play_counted<K: Sink, L: Ledger>(
     sink: &mut K,
     blank: Blank,
 ) -> Status
-    requires within { length bytes.now ≤ 268435456 }
+    requires within { length bytes.now ≤ TRACE_BYTES }
     requires name { blank.name ≡ L.name }
     requires parts { blank.parts ≡ L.parts }
     requires some { 0 < blank.parts }
-    ensures writes { Writes (given_lines (as_settings settings.now) Task.Play is_cut bytes.now) result (K.written sink.old) (K.written sink.new) }
+    ensures writes { Writes (given_lines (as_settings settings.now) Task.Play is_cut bytes.now) result
+        (K.written sink.old) (K.written sink.new) }
     ensures whole { result ≡ Status.Done → is_cut ≡ false }
     ensures cut { result ≡ Status.TraceTooLong → is_cut ≡ true }
     ensures failed { result ≡ Status.WriteFault → Rose (K.faults sink.old) (K.faults sink.new) }

@@ -10,7 +10,7 @@ use itoa::Buffer;
 /// How a run ended.
 #[derive(Clone, Copy, Debug, PartialEq, Eq)]
 pub enum Status {
-    /// The trace was run to its end, and all output is written.
+    /// Every line of the trace was run, or read by `check`, and all output is written.
     Done,
     /// The words are none that the program knows.
     Usage,

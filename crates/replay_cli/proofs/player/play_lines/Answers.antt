@@ -23,11 +23,13 @@ returns-in-Stop-clause-writes g c =
 pub returns-then-is_cut-clause-writes : goal.returns-then-is_cut-clause-writes
 returns-then-is_cut-clause-writes g c =
     writes_behind _ _ _ _ _ _
-    (reached-cut (as_settings c.args.settings.now) _ c.args.is_cut c.args.trace.now c.loop-line.rest.now c.loop-line.number _ _ _ c.if-is_cut.true c.loop-line.invariant.3 c.in_default.ensures.tail c.in_default.ensures.lines c.loop-line.invariant.1)
+    (reached-cut (as_settings c.args.settings.now) _ c.args.is_cut c.args.trace.now c.loop-line.rest.now c.loop-line.number _ _ _ c.if-is_cut.true
+    c.loop-line.invariant.3 c.in_default.ensures.tail c.in_default.ensures.lines c.loop-line.invariant.1)
     (c.stop_at.ensures.stops (g.K.Sink.written c.loop-line.sink))
 
 pub returns-clause-writes : goal.returns-clause-writes
 returns-clause-writes g c =
     writes_behind _ _ _ _ _ _
-    (reached-whole (as_settings c.args.settings.now) _ c.args.is_cut c.args.trace.now c.loop-line.rest.now c.loop-line.number _ _ _ c.if-is_cut.false c.in_default.ensures.lines c.loop-line.invariant.1)
+    (reached-whole (as_settings c.args.settings.now) _ c.args.is_cut c.args.trace.now c.loop-line.rest.now c.loop-line.number _ _ _ c.if-is_cut.false
+    c.in_default.ensures.lines c.loop-line.invariant.1)
     (c.finish.ensures.writes c.loop-line.number)

@@ -11,7 +11,8 @@ abbrev pub invariant-loop-line : goal.invariant-loop-line
 invariant-loop-line g l =
     (l.number + length l.rest ≤ length l.fn.trace + 1)
     × Reached (run_lines (as_settings l.fn.settings) (close_of l.fn.is_cut l.fn.trace) 1 l.fn.text.state (lines_in l.fn.is_cut l.fn.trace))
-    (run_lines (as_settings l.fn.settings) (close_of l.fn.is_cut l.fn.trace) l.number l.text.state (lines_in l.fn.is_cut l.rest)) (g.K.Sink.written l.fn.sink) (g.K.Sink.written l.sink)
+    (run_lines (as_settings l.fn.settings) (close_of l.fn.is_cut l.fn.trace) l.number l.text.state (lines_in l.fn.is_cut l.rest)) (g.K.Sink.written l.fn.sink)
+    (g.K.Sink.written l.sink)
     × (g.K.Sink.faults l.sink ≡ g.K.Sink.faults l.fn.sink)
     × (l.fn.is_cut ≡ true → open_line l.fn.trace ≡ open_line l.rest)
 

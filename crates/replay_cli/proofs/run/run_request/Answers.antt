@@ -9,4 +9,5 @@ returns-in-Err-clause-asks g c =
 
 pub returns-in-Ok-clause-asks : goal.returns-in-Ok-clause-asks
 returns-in-Ok-clause-asks g c =
-    asks-both c.args.task (option_map (λ name. name.now) c.args.settings) c.args.trace.now c.in-Ok.settings c.run_trace.result _ _ _ c.in-Ok.ensures.asks c.run_trace.ensures.asks
+    asks-both c.args.task (option_map (λ name. name.now) c.args.settings) c.args.trace.now c.in-Ok.settings c.run_trace.result _ _ _ c.in-Ok.ensures.asks
+    c.run_trace.ensures.asks

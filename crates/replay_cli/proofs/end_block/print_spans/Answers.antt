@@ -7,7 +7,7 @@ use Rattle.std.proofs.lemmas.Option.{slice_get_within, get_or_from_slice_get}
 use Rattle.edit_model.specs.State.{Span}
 use Rattle.edit_model.specs.Rows.{span_of}
 use Rattle.edit_model.specs.Printed.{span_line}
-use Rattle.replay_cli.proofs.commands.print_spans.Goals as goal
+use Rattle.replay_cli.proofs.end_block.print_spans.Goals as goal
 
 take_got : (spans : List Span) (at : ℕ) (span : Span) → slice_get spans at ≡ Some span → take (at + 1) spans ≡ take at spans ++ span ∷ []
 take_got spans at span is =

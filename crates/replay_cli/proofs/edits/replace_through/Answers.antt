@@ -7,8 +7,8 @@ use Rattle.edit_model.specs.Changed.{state_after}
 use Rattle.edit_model.specs.Filtered.{filtered_step}
 use Rattle.edit_model.specs.Output.{edit_logged}
 use Rattle.replay_cli.proofs.Entries.{places-done, filtered-within, filtered-outside}
-use Rattle.replay_cli.proofs.commands.replace_through.Given as given
-use Rattle.replay_cli.proofs.commands.replace_through.Goals as goal
+use Rattle.replay_cli.proofs.edits.replace_through.Given as given
+use Rattle.replay_cli.proofs.edits.replace_through.Goals as goal
 
 pub returns-in_default : goal.returns-in_default
 returns-in_default g c =
@@ -43,7 +43,8 @@ filter_all-requires-clause-within g c =
 
 module _ (g : given.Over) (c : goal.After-drop-filtered-2 g) where
   -- what the filters made is what the replacement brings
-  same : Replace c.args.start c.args.end c.in_ok-filtered.filtered ≡ filtered_step c.args.filters.now c.args.text.now.state (Replace c.args.start c.args.end c.args.incoming.now)
+  same : Replace c.args.start c.args.end c.in_ok-filtered.filtered ≡ filtered_step c.args.filters.now c.args.text.now.state
+      (Replace c.args.start c.args.end c.args.incoming.now)
   same =
       let a = c.args in
       let range = rw (to_z-of_z w32 a.start c.ranges.start, to_z-of_z w32 a.end c.ranges.end) at c.judge_range.ensures.verdict in

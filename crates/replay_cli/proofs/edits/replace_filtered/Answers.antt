@@ -2,7 +2,7 @@
 use Rattle.std.proofs.Common.{◌≡◌, ap, sym, ◌∙◌, w32}
 use Rattle.std.proofs.lemmas.Int.{to_z-of_z}
 use Rattle.replay_cli.proofs.Entries.{refused-again}
-use Rattle.replay_cli.proofs.commands.replace_filtered.Goals as goal
+use Rattle.replay_cli.proofs.edits.replace_filtered.Goals as goal
 
 pub span_count_then-spans-requires-clause-full : goal.span_count_then-spans-requires-clause-full
 span_count_then-spans-requires-clause-full g c =
