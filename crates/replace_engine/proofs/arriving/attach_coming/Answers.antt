@@ -1,5 +1,5 @@
 -- Some spans come, and behind them the composing region.
-use Rattle.std.proofs.Common.{◌≡◌, ◌++◌, ◌+◌, [], append_assoc, ap, sym, ◌∙◌, length, arith}
+use Rattle.std.proofs.Common.{◌++◌, [], append_assoc, ap, sym, ◌∙◌, arith}
 use Rattle.std.specs.Option.{option_to_list}
 use Rattle.edit_model.specs.Rows.{spans_in}
 use Rattle.replace_engine.specs.Arrivals.{arrivals}

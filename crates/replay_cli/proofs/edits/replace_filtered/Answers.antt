@@ -1,6 +1,4 @@
 -- A replacement that is refused leaves the state, so it would be refused again.
-use Rattle.std.proofs.Common.{◌≡◌, ap, sym, ◌∙◌, w32}
-use Rattle.std.proofs.lemmas.Int.{to_z-of_z}
 use Rattle.replay_cli.proofs.Entries.{refused-again}
 use Rattle.replay_cli.proofs.edits.replace_filtered.Goals as goal
 

@@ -1,5 +1,5 @@
 -- In an empty range no end is pulled.
-use Rattle.std.proofs.Common.{◌<◌, sym, ◌∙◌, arith}
+use Rattle.std.proofs.Common.{◌<◌, arith}
 use Rattle.edit_model.specs.Rows.{spans_in}
 use Rattle.text_cut.proofs.Halved.{some_pulled}
 use Rattle.text_cut.proofs.boundaries.boundary_behind.Goals as goal

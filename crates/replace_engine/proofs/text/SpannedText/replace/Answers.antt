@@ -1,7 +1,6 @@
 -- Where the verdict isn't done nothing changes, whatever the number of slots.
-use Rattle.std.proofs.Common.{◌≢◌, sym, ◌∙◌, w32}
+use Rattle.std.proofs.Common.{sym, ◌∙◌, w32}
 use Rattle.std.proofs.lemmas.Int.{to_z-of_z}
-use Rattle.edit_base.specs.declared.verdicts.Verdict.TheVariants.{Done}
 use Rattle.edit_model.specs.declared.steps.Step.TheVariants as step
 use Rattle.edit_model.specs.Verdicts.{judged}
 use Rattle.edit_model.specs.Changed.{stepped, change_of}
