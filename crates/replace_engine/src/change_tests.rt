@@ -292,7 +292,7 @@ fn places<L: Ledger>(rt: &impl Abort, alloc: Global, blank: Blank) -> Result<(),
             &mut steps,
         )?;
         for (id, start, end, flags, tag) in *set {
-            let ask = Ask::Set(*id, *start as i32, *end as i32, *flags, *tag);
+            let ask = Ask::Set(*id, i32::from(*start), i32::from(*end), *flags, *tag);
             plays(rt, alloc, &mut text, &[(ask, done)], &mut steps)?;
         }
         for ask in *asks {

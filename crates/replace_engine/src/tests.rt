@@ -181,15 +181,15 @@ pub(crate) fn plays<L: Ledger>(
 }
 
 /// An id, a start, an end, a flags word and a tag.
-pub(crate) type Tagged = (u32, u32, u32, u32, u32);
+pub(crate) type Tagged = (u32, u16, u16, u32, u32);
 
 /// A row with this order; that of the id 2 is the composing region.
 fn row(tagged: Tagged, order: u64) -> SpanRow {
     let (id, start, end, flags, tag) = tagged;
     SpanRow {
         id,
-        start,
-        end,
+        start: u32::from(start),
+        end: u32::from(end),
         flags,
         order,
         what: if id == 2 {
@@ -655,6 +655,36 @@ fn changes<L: Ledger>(rt: &impl Abort, alloc: Global, blank: Blank) -> Result<()
     Ok(())
 }
 
+/// What a text of 4,096 spans is asked for, one after the other.
+const CROWDED: [Case<'static>; 6] = [
+    (
+        Ask::Set(4_099, 0, 0, 34, 0),
+        Verdict::Refused(Refusal::SpansFull),
+    ),
+    (Ask::Set(3, 0, 0, 17, 0), Verdict::Done),
+    (
+        Ask::Bring(0, 0, "a", &[(3, 0, 1, 17, What::Tag(1))]),
+        Verdict::Done,
+    ),
+    (
+        Ask::Bring(0, 0, "", &[(3, 0, 1, 17, What::Tag(1))]),
+        Verdict::NoChange,
+    ),
+    (
+        Ask::Bring(
+            0,
+            0,
+            "a",
+            &[(3, 0, 1, 17, What::Tag(1)), (4_099, 0, 1, 17, What::Tag(1))],
+        ),
+        Verdict::Refused(Refusal::SpansFull),
+    ),
+    (
+        Ask::Compose(0, 0, "a", &[]),
+        Verdict::Refused(Refusal::SpansFull),
+    ),
+];
+
 /// A text of 4,096 spans takes no other, still gives an attached one new places, and skips it where it comes.
 fn crowd<L: Ledger>(rt: &impl Abort, alloc: Global, blank: Blank) -> Result<(), NoMemory>
     requires name { blank.name ≡ L.name }
@@ -663,32 +693,11 @@ fn crowd<L: Ledger>(rt: &impl Abort, alloc: Global, blank: Blank) -> Result<(), 
 {
     let mut steps = Steps::<L>::start(blank);
     let mut text = SpannedText::new(alloc)?;
-    let tag = What::Tag(1);
     for id in 3..4_099 {
         let answer = edit(rt, alloc, &mut text, Ask::Set(id, 0, 0, 34, 0), &mut steps)?;
         assert_eq!(rt; answer, Verdict::Done);
     }
-    let cases = [
-        (
-            Ask::Set(4_099, 0, 0, 34, 0),
-            Verdict::Refused(Refusal::SpansFull),
-        ),
-        (Ask::Set(3, 0, 0, 17, 0), Verdict::Done),
-        (Ask::Bring(0, 0, "a", &[(3, 0, 1, 17, tag)]), Verdict::Done),
-        (
-            Ask::Bring(0, 0, "", &[(3, 0, 1, 17, tag)]),
-            Verdict::NoChange,
-        ),
-        (
-            Ask::Bring(0, 0, "a", &[(3, 0, 1, 17, tag), (4_099, 0, 1, 17, tag)]),
-            Verdict::Refused(Refusal::SpansFull),
-        ),
-        (
-            Ask::Compose(0, 0, "a", &[]),
-            Verdict::Refused(Refusal::SpansFull),
-        ),
-    ];
-    plays(rt, alloc, &mut text, &cases, &mut steps)?;
+    plays(rt, alloc, &mut text, &CROWDED, &mut steps)?;
     assert_eq!(rt; text.span_count(), 4_096);
     assert_eq!(rt; text.len(), 1);
     Ok(())
