@@ -18,3 +18,7 @@ pub mod EditedStates
 pub mod Watchers
 pub mod FilterLaws
 pub mod Unfiltered
+pub mod MachineRuns
+pub mod Outcomes
+pub mod Answering
+pub mod Shelving

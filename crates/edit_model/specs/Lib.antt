@@ -13,7 +13,15 @@ pub mod Changed
 pub mod Filtered
 pub mod Leads
 pub mod Faces
+pub mod Minds
+pub mod MindLaws
+pub mod MindExamples
 pub mod Log
+pub mod Fitting
+pub mod Events
+pub mod Machine
+pub mod Outcome
+pub mod MachineLaws
 pub mod Printed
 pub mod Words
 pub mod Faults
@@ -21,6 +29,8 @@ pub mod Operations
 pub mod Reading
 pub mod Lines
 pub mod Settings
+pub mod Shelves
+pub mod ShelfLaws
 pub mod Output
 pub mod Laws
 pub mod Examples

@@ -1,27 +1,54 @@
--- What a trace gives: the bytes of each command, the end block, and how the run ends.
-use Rattle.std.specs.Prelude.{ℕ, ◌+◌, ◌++◌, List, [], ◌∷◌, length, take, nat_lt, codes, decimal, if◌then◌else◌, Option, Some, None, Result, Ok, Err}
-use Rattle.std.specs.List.{concat}
+-- What a trace gives: the bytes of each command, the end block, how the run ends, and what the watchers keep then.
+use Rattle.std.specs.Prelude.{ℕ, ◌+◌, ◌++◌, List, [], ◌∷◌, length, take, nat_lt, if◌then◌else◌, Option, Some, None, Result, Ok, Err}
+use Rattle.std.specs.List.{concat, flat_map}
 use Rattle.edit_base.specs.declared.bounds.TheConstants.Limits.{TRACE_BYTES, LINE_BYTES}
 use Rattle.edit_model.specs.declared.faults.TraceFault.{TraceFault}
 use Rattle.edit_model.specs.declared.faults.TraceFault.TheVariants as fault
+use Rattle.edit_model.specs.declared.faults.SettingsFault.{SettingsFault}
+use Rattle.edit_model.specs.declared.faults.SettingsFault.TheVariants as wrong
 use Rattle.edit_model.specs.declared.entries.Logged.{Logged}
 use Rattle.edit_model.specs.declared.commands.Command.{Command}
 use Rattle.edit_model.specs.declared.commands.Command.TheVariants as commands
-use Rattle.edit_model.specs.declared.steps.Step.{Step}
-use Rattle.edit_model.specs.declared.steps.Step.TheVariants as steps
+use Rattle.edit_model.specs.declared.items.Item.{Item}
+use Rattle.edit_model.specs.declared.items.Item.TheVariants as item
+use Rattle.edit_model.specs.declared.replies.Reply.TheVariants as reply
+use Rattle.edit_base.specs.declared.edits.Edit.TheVariants as edit
 use Rattle.edit_base.specs.declared.rows.Pick.TheVariants.{All}
 use Rattle.edit_base.specs.declared.verdicts.Verdict.{Verdict}
 use Rattle.edit_model.specs.State.{State, empty_state, place}
 use Rattle.edit_model.specs.Over.{over, next_edge}
-use Rattle.edit_model.specs.Verdicts.{judged, judged_range}
-use Rattle.edit_model.specs.Changed.{state_after, on_done}
-use Rattle.edit_model.specs.Filtered.{filtered_step}
-use Rattle.edit_model.specs.Log.{logged, entry_of, range_logged}
-use Rattle.edit_model.specs.Printed.{spaced, line_end, header_line, entry_line, reply_line, found_lines, edge_line, end_block}
+use Rattle.edit_model.specs.Verdicts.{judged_range}
+use Rattle.edit_model.specs.Changed.{on_done}
+use Rattle.edit_model.specs.Log.{range_logged}
+use Rattle.edit_model.specs.Minds.{Mind}
+use Rattle.edit_model.specs.Machine.{Setup, Scene}
+use Rattle.edit_model.specs.Outcome.{outcome}
+use Rattle.edit_model.specs.Printed.{header_line, entry_line, reply_text, reply_line, found_lines, edge_line, end_block}
 use Rattle.edit_model.specs.Operations.{operation, op_of}
 use Rattle.edit_model.specs.Reading.{read_command}
 use Rattle.edit_model.specs.Settings.{Settings}
+use Rattle.edit_model.specs.Shelves.{Loaded, loaded_shelf}
 use Rattle.edit_model.specs.Lines.{trace_lines, ended_lines, open_line, is_blank}
+
+-- ---- before the first command
+
+-- what a run is set to by its settings and its shelf, or their fault, and the minds of the shelf then
+pub record Prepared : Type 0 where
+  pub minds : List Mind
+  pub found : Result Setup SettingsFault
+
+-- the filters and the depth of the settings, and the slots of the watchers that were loaded
+abbrev pub setup : Settings → List ℕ → Setup
+setup settings slots = record { filters = settings.filters; slots = slots; depth = settings.depth }
+
+-- the settings load their watchers on the shelf; what was loaded before a fault stays
+abbrev pub prepared_by : Settings → Loaded → Prepared
+prepared_by settings loaded =
+    record { minds = loaded.minds; found = if loaded.fits then Ok (setup settings loaded.slots) else Err wrong.Watcher }
+
+abbrev pub prepared : Result Settings SettingsFault → List Mind → Prepared
+prepared (Ok settings) minds = prepared_by settings (loaded_shelf settings.watchers minds)
+prepared (Err it) minds = record { minds = minds; found = Err it }
 
 -- ---- one command
 
@@ -29,51 +56,63 @@ use Rattle.edit_model.specs.Lines.{trace_lines, ended_lines, open_line, is_blank
 abbrev pub name_of : Command → List ℕ
 name_of asked = (operation (op_of asked)).name
 
--- the edit that a command asks for, if it asks for one
-abbrev pub step_of : Command → Option Step
-step_of (commands.Replace start end incoming) = Some (steps.Replace start end incoming)
-step_of (commands.SetSpan id start end flags what) = Some (steps.Set id start end flags what)
-step_of (commands.RemoveSpan id) = Some (steps.Remove id)
-step_of (commands.SpansOver start end) = None
-step_of (commands.NextEdge start limit) = None
+-- the item that a command asks for, if it asks for one
+abbrev pub item_of : Command → Option Item
+item_of (commands.Replace start end incoming) = Some (item.Replace start end incoming)
+item_of (commands.SetSpan id start end flags what) = Some (item.Edit (edit.SetSpan id start end flags what))
+item_of (commands.RemoveSpan id) = Some (item.Edit (edit.RemoveSpan id))
+item_of (commands.SpansOver start end) = None
+item_of (commands.NextEdge start limit) = None
 
--- the state behind a command's edit, its text filtered
-abbrev pub state_edited : Settings → State → Step → State
-state_edited settings state asked = state_after state 0 (filtered_step settings.filters state asked)
+-- what stands between two commands: the text with its spans, and the minds of the shelf
+pub record Session : Type 0 where
+  pub state : State
+  pub minds : List Mind
 
--- the state behind a command: that of its edit, or the same
-abbrev pub behind_step : Settings → State → Option Step → State
-behind_step settings state None = state
-behind_step settings state (Some asked) = state_edited settings state asked
+abbrev pub standing : State → List Mind → Session
+standing state minds = record { state = state; minds = minds }
 
-unfoldable pub state_behind : Settings → State → Command → State
-state_behind settings state asked = behind_step settings state (step_of asked)
+-- before the first command
+abbrev pub first_session : List Mind → Session
+first_session minds = standing empty_state minds
 
--- what is logged of a command's edit
-abbrev pub edit_logged : State → Step → Logged
-edit_logged state asked = logged state asked (judged state 0 asked)
+-- where a command starts: nothing is logged, and no nested edit has begun
+abbrev pub scene_of : Session → Scene
+scene_of session = record { state = session.state; minds = session.minds; log = []; begun = 0; effects = [] }
 
--- the line of a command's edit: as it was asked for, with what became of it when its text was filtered
-abbrev pub edit_line : Settings → State → Step → List ℕ
-edit_line settings state asked = entry_line (entry_of 0 asked (edit_logged state (filtered_step settings.filters state asked)))
+abbrev pub session_of : Scene → Session
+session_of scene = standing scene.state scene.minds
+
+-- behind an item, or the same where there is none
+abbrev pub behind_item : Setup → Session → Option Item → Session
+behind_item r session None = session
+behind_item r session (Some it) = session_of (outcome r it (scene_of session))
+
+-- what stands behind a command
+unfoldable pub session_behind : Setup → Session → Command → Session
+session_behind r session asked = behind_item r session (item_of asked)
+
+-- a line for each entry of what the run of an item logs
+abbrev pub item_lines : Setup → Session → Item → List ℕ
+item_lines r session it = flat_map entry_line (outcome r it (scene_of session)).log
 
 -- a query's answer, or the refusal of its range
 abbrev pub answer_lines : State → Verdict → List ℕ → List ℕ
 answer_lines state verdict answer = on_done verdict answer (reply_line (range_logged state verdict))
 
 -- what a command prints behind its header
-unfoldable pub lines_of : Settings → State → Command → List ℕ
-lines_of settings state (commands.Replace start end incoming) = edit_line settings state (steps.Replace start end incoming)
-lines_of settings state (commands.SetSpan id start end flags what) = edit_line settings state (steps.Set id start end flags what)
-lines_of settings state (commands.RemoveSpan id) = edit_line settings state (steps.Remove id)
-lines_of settings state (commands.SpansOver start end) =
-    answer_lines state (judged_range state start end) (found_lines (over (place start) (place end) All state.spans))
-lines_of settings state (commands.NextEdge start limit) =
-    answer_lines state (judged_range state start limit) (edge_line (next_edge (place start) (place limit) state.spans))
+unfoldable pub lines_of : Setup → Session → Command → List ℕ
+lines_of r session (commands.Replace start end incoming) = item_lines r session (item.Replace start end incoming)
+lines_of r session (commands.SetSpan id start end flags what) = item_lines r session (item.Edit (edit.SetSpan id start end flags what))
+lines_of r session (commands.RemoveSpan id) = item_lines r session (item.Edit (edit.RemoveSpan id))
+lines_of r session (commands.SpansOver start end) =
+    answer_lines session.state (judged_range session.state start end) (found_lines (over (place start) (place end) All session.state.spans))
+lines_of r session (commands.NextEdge start limit) =
+    answer_lines session.state (judged_range session.state start limit) (edge_line (next_edge (place start) (place limit) session.state.spans))
 
 -- the bytes of a command: its header, and what it prints behind it
-abbrev pub command_bytes : Settings → ℕ → State → Command → List ℕ
-command_bytes settings number state asked = header_line number (name_of asked) ++ lines_of settings state asked
+abbrev pub command_bytes : Setup → ℕ → Session → Command → List ℕ
+command_bytes r number session asked = header_line number (name_of asked) ++ lines_of r session asked
 
 -- ---- the lines
 
@@ -96,41 +135,42 @@ pub data Ending : Type 0 where
   faulty_line : ℕ → TraceFault → Ending
   too_long : Ending
 
--- the bytes of each command that was run, those behind the last command, and how the run ends
+-- the bytes of each command that was run, those behind the last command, how the run ends, and the minds of the shelf then
 pub record Played : Type 0 where
   pub commands : List (List ℕ)
   pub last : List ℕ
   pub ending : Ending
+  pub minds : List Mind
 
 -- no command, and nothing behind
-abbrev pub stopped : Ending → Played
-stopped ending = record { commands = []; last = []; ending = ending }
+abbrev pub stopped : Ending → List Mind → Played
+stopped ending minds = record { commands = []; last = []; ending = ending; minds = minds }
 
 -- a command's bytes in front
 abbrev pub behind : List ℕ → Played → Played
-behind bytes played = record { commands = bytes ∷ played.commands; last = played.last; ending = played.ending }
+behind bytes played = record { commands = bytes ∷ played.commands; last = played.last; ending = played.ending; minds = played.minds }
 
--- a line with this number, and then what the other lines give from the state behind it
-abbrev pub line_run : Settings → ℕ → State → Line → (State → Played) → Played
-line_run settings number state blank rest = rest state
-line_run settings number state (command asked) rest = behind (command_bytes settings number state asked) (rest (state_behind settings state asked))
-line_run settings number state (faulty it) rest = stopped (faulty_line number it)
+-- a line with this number, and then what the other lines give from what stands behind it
+abbrev pub line_run : Setup → ℕ → Session → Line → (Session → Played) → Played
+line_run r number session blank rest = rest session
+line_run r number session (command asked) rest = behind (command_bytes r number session asked) (rest (session_behind r session asked))
+line_run r number session (faulty it) rest = stopped (faulty_line number it) session.minds
 
--- the lines from this number on, and what stands behind them, by the number and the state there
-unfoldable pub run_lines : Settings → (ℕ → State → Played) → ℕ → State → List (List ℕ) → Played
-run_lines settings close number state [] = close number state
-run_lines settings close number state (line ∷ lines) = line_run settings number state (line_of line) (λ next. run_lines settings close (number + 1) next lines)
+-- the lines from this number on, and what stands behind them, by the number and what stands there
+unfoldable pub run_lines : Setup → (ℕ → Session → Played) → ℕ → Session → List (List ℕ) → Played
+run_lines r close number session [] = close number session
+run_lines r close number session (line ∷ lines) = line_run r number session (line_of line) (λ next. run_lines r close (number + 1) next lines)
 
 -- behind the last line of a trace stands the end block
-abbrev pub ended : ℕ → State → Played
-ended number state = record { commands = []; last = end_block state; ending = finished }
+abbrev pub ended : ℕ → Session → Played
+ended number session = record { commands = []; last = end_block session.state; ending = finished; minds = session.minds }
 
 -- a trace over its limit stops behind its lines, at a line that is too long already or as too long itself
 abbrev pub cut_off : List ℕ → Ending → ℕ → Ending
 cut_off tail ending number = if nat_lt LINE_BYTES (length tail) then faulty_line number fault.LineTooLong else ending
 
-abbrev pub overrun : List ℕ → ℕ → State → Played
-overrun tail number state = stopped (cut_off tail too_long number)
+abbrev pub overrun : List ℕ → ℕ → Session → Played
+overrun tail number session = stopped (cut_off tail too_long number) session.minds
 
 -- all bytes
 abbrev pub bytes_of : Played → List ℕ
@@ -140,34 +180,36 @@ bytes_of played = concat played.commands ++ played.last
 abbrev pub within_limit : List ℕ → List ℕ
 within_limit trace = take TRACE_BYTES trace
 
--- what a trace gives under these settings
-unfoldable pub play : Settings → List ℕ → Played
-play settings trace =
+-- what a trace gives under a setup, from the minds of the shelf that was loaded
+unfoldable pub play : Setup → List Mind → List ℕ → Played
+play r minds trace =
     if nat_lt TRACE_BYTES (length trace)
-    then run_lines settings (overrun (open_line (within_limit trace))) 1 empty_state (ended_lines (within_limit trace))
-    else run_lines settings ended 1 empty_state (trace_lines trace)
+    then run_lines r (overrun (open_line (within_limit trace))) 1 (first_session minds) (ended_lines (within_limit trace))
+    else run_lines r ended 1 (first_session minds) (trace_lines trace)
 
 -- ---- check
 
--- what the lines from this number on give that are read alone, so many commands having been read before
-abbrev pub line_check : ℕ → ℕ → Line → (ℕ → Played) → Played
-line_check number count blank rest = rest count
-line_check number count (command asked) rest = rest (count + 1)
-line_check number count (faulty it) rest = stopped (faulty_line number it)
+-- what the lines from this number on give that are read and not run, so many commands having been read before
+abbrev pub line_check : List Mind → ℕ → ℕ → Line → (ℕ → Played) → Played
+line_check minds number count blank rest = rest count
+line_check minds number count (command asked) rest = rest (count + 1)
+line_check minds number count (faulty it) rest = stopped (faulty_line number it) minds
 
-unfoldable pub check_lines : (ℕ → ℕ → Played) → ℕ → ℕ → List (List ℕ) → Played
-check_lines close number count [] = close number count
-check_lines close number count (line ∷ lines) = line_check number count (line_of line) (λ next. check_lines close (number + 1) next lines)
+unfoldable pub check_lines : List Mind → (ℕ → ℕ → Played) → ℕ → ℕ → List (List ℕ) → Played
+check_lines minds close number count [] = close number count
+check_lines minds close number count (line ∷ lines) =
+    line_check minds number count (line_of line) (λ next. check_lines minds close (number + 1) next lines)
 
--- `ok` and how many commands there are
-abbrev pub checked : ℕ → ℕ → Played
-checked number count = record { commands = []; last = codes "ok" ++ spaced (decimal count) ++ line_end; ending = finished }
+-- how many commands there are
+abbrev pub checked : List Mind → ℕ → ℕ → Played
+checked minds number count = record { commands = []; last = reply_text (reply.Checked count); ending = finished; minds = minds }
 
-abbrev pub overrun_check : List ℕ → ℕ → ℕ → Played
-overrun_check tail number count = stopped (cut_off tail too_long number)
+abbrev pub overrun_check : List Mind → List ℕ → ℕ → ℕ → Played
+overrun_check minds tail number count = stopped (cut_off tail too_long number) minds
 
-unfoldable pub check : List ℕ → Played
-check trace =
+-- no watcher is told of anything
+unfoldable pub check : List Mind → List ℕ → Played
+check minds trace =
     if nat_lt TRACE_BYTES (length trace)
-    then check_lines (overrun_check (open_line (within_limit trace))) 1 0 (ended_lines (within_limit trace))
-    else check_lines checked 1 0 (trace_lines trace)
+    then check_lines minds (overrun_check minds (open_line (within_limit trace))) 1 0 (ended_lines (within_limit trace))
+    else check_lines minds (checked minds) 1 0 (trace_lines trace)

@@ -9,6 +9,7 @@ use Rattle.edit_base.specs.declared.verdicts.Refusal.TheVariants.{Depth, Budget,
 use Rattle.edit_model.specs.declared.entries.LogEntry.{LogEntry}
 use Rattle.edit_model.specs.declared.entries.LogEntry.TheVariants as entry
 use Rattle.edit_model.specs.declared.entries.Logged.{Logged}
+use Rattle.edit_model.specs.declared.events.TextEvent.{TextEvent}
 use Rattle.edit_model.specs.declared.replies.Reply.{Reply}
 use Rattle.edit_model.specs.declared.replies.Reply.TheVariants as reply
 use Rattle.edit_base.specs.declared.kinds.What.{What}
@@ -99,6 +100,12 @@ logged_text it = verdict_text it.verdict it.number
 abbrev pub header_line : ℕ → List ℕ → List ℕ
 header_line number op = codes ">" ++ spaced (decimal number) ++ spaced op ++ line_end
 
+-- a callback of a replacement: its name, depth and slot, the start, and how many units went and came
+abbrev pub event_line : List ℕ → ℕ → TextEvent → List ℕ
+event_line name slot event =
+    name ++ spaced (decimal event.depth) ++ spaced (decimal slot) ++ spaced (decimal event.start) ++ spaced (decimal event.before)
+    ++ spaced (decimal event.after) ++ line_end
+
 abbrev pub entry_line : LogEntry → List ℕ
 entry_line (entry.Replace depth start end units it) =
     codes "edit" ++ spaced (decimal depth) ++ spaced (codes "replace") ++ spaced (signed_decimal start) ++ spaced (signed_decimal end)
@@ -108,12 +115,16 @@ entry_line (entry.Set depth id start end flags it) =
     ++ spaced (decimal flags) ++ logged_text it ++ line_end
 entry_line (entry.Remove depth id it) =
     codes "edit" ++ spaced (decimal depth) ++ spaced (codes "remove") ++ spaced (decimal id) ++ logged_text it ++ line_end
+entry_line (entry.Before slot event) = event_line (codes "before") slot event
+entry_line (entry.Changed slot event) = event_line (codes "changed") slot event
+entry_line (entry.After slot event) = event_line (codes "after") slot event
 
--- a verdict, how many spans are found, or a place
+-- a verdict, how many spans are found, a place, or how many commands were read
 abbrev pub reply_text : Reply → List ℕ
 reply_text (reply.Verdict it) = codes "reply" ++ logged_text it ++ line_end
 reply_text (reply.Found count) = codes "found" ++ spaced (decimal count) ++ line_end
 reply_text (reply.Edge place) = codes "edge" ++ spaced (decimal place) ++ line_end
+reply_text (reply.Checked count) = codes "ok" ++ spaced (decimal count) ++ line_end
 
 -- the reply to a query whose range is refused
 abbrev pub reply_line : Logged → List ℕ

@@ -1,25 +1,27 @@
 -- What a settings file sets, or its first fault, by the table that `toml` promises for its bytes.
 use Rattle.std.specs.Prelude.{ℕ, ◌+◌, ◌≤◌, ◌&&◌, ℤ, pos, Bool, true, not, List, [], ◌∷◌, length, nat_lt, int_le, codes, if◌then◌else◌}
-use Rattle.std.specs.Prelude.{Option, None, is_some, Result, Ok, Err, ok_or}
+use Rattle.std.specs.Prelude.{Option, None, Some, is_some, Result, Ok, Err, ok_or}
 use Rattle.std.specs.Option.{option_map_or}
 use Rattle.std.specs.List.{All, list_any}
 use Rattle.std.specs.Str.{is_utf8, bytes_eq}
 use Rattle.toml.specs.Data.{Data, Items, no_items, item, Members, no_members, member, get_member, as_integer, as_str, as_array, as_table}
 use Rattle.toml.specs.Parse.{parse_document}
-use Rattle.edit_base.specs.declared.bounds.TheConstants.Limits.{TEXT, FILTERS, DEPTH, DEPTH_DEFAULT, SETTINGS_BYTES, RANGES, WIDTH}
+use Rattle.edit_base.specs.declared.bounds.TheConstants.Limits.{TEXT, WATCHERS, FILTERS, DEPTH, DEPTH_DEFAULT, SETTINGS_BYTES, RANGES, WIDTH}
 use Rattle.edit_model.specs.declared.faults.SettingsFault.{SettingsFault}
 use Rattle.edit_model.specs.declared.faults.SettingsFault.TheVariants as fault
 use Rattle.edit_model.specs.declared.filters.Filter.{Filter}
 use Rattle.edit_model.specs.declared.filters.Filter.TheVariants.{Length, AsciiUpper, Allow, NoNewline}
 use Rattle.edit_model.specs.declared.filters.UnitRange.{UnitRange}
+use Rattle.edit_model.specs.declared.settings.WatcherSetting.{WatcherSetting}
 use Rattle.edit_model.specs.Faults.{and_then, unless}
 use Rattle.edit_model.specs.State.{place}
 
--- what a run is set to; a text goes through the filters in their order
+-- what a run is set to; a text goes through the filters in their order, and the watchers are loaded in theirs
 pub record Settings : Type 0 where
   pub depth : ℕ
   pub width : ℕ
   pub filters : List Filter
+  pub watchers : List WatcherSetting
 
 -- the numbers of a filter are within their limits
 abbrev pub FitsFilter : Filter → Type 0
@@ -28,6 +30,14 @@ FitsFilter AsciiUpper = Unit
 FitsFilter (Allow ranges) = length ranges ≤ RANGES
 FitsFilter NoNewline = Unit
 
+-- how many numbers a watcher may be loaded with
+abbrev pub numbers_most : ℕ
+numbers_most = 8
+
+-- a watcher is asked for with no more numbers than it may be
+abbrev pub FitsWatcher : WatcherSetting → Type 0
+FitsWatcher watcher = length watcher.numbers ≤ numbers_most
+
 -- what all settings fit, whether they were read or are built in
 pub record FitsLimits (settings : Settings) : Type 0 where
   pub depth : settings.depth ≤ DEPTH
@@ -35,6 +45,8 @@ pub record FitsLimits (settings : Settings) : Type 0 where
   pub width : settings.width ≤ WIDTH
   pub filters : length settings.filters ≤ FILTERS
   pub each_filter : All FitsFilter settings.filters
+  pub watchers : length settings.watchers ≤ WATCHERS
+  pub each_watcher : All FitsWatcher settings.watchers
 
 -- the table of a file's bytes, where `toml` reads one
 abbrev pub toml_of : List ℕ → Option Members
@@ -53,9 +65,13 @@ width_default = 400
 abbrev pub greatest_unit : ℕ
 greatest_unit = 65535
 
+-- the greatest number that a watcher may be loaded with
+abbrev pub greatest_number : ℕ
+greatest_number = 4294967295
+
 -- the settings of a file that says nothing
 abbrev pub built_in : Settings
-built_in = record { depth = DEPTH_DEFAULT; width = width_default; filters = [] }
+built_in = record { depth = DEPTH_DEFAULT; width = width_default; filters = []; watchers = [] }
 
 -- ---- first faults
 
@@ -164,6 +180,51 @@ filter_in value = having (ok_or (as_table value) fault.Value) filter_of
 abbrev pub filters_of : Data → Result (List Filter) SettingsFault
 filters_of value = having (tables_of FILTERS value) (each_of filter_in)
 
+-- ---- watchers
+
+-- the kinds of watchers that there are, by their names
+abbrev pub watcher_kinds : List (List ℕ × ℕ)
+watcher_kinds =
+    (codes "note", 0)
+    ∷ (codes "pair", 1)
+    ∷ (codes "echo", 7)
+    ∷ []
+
+-- the number of the first row with this name
+abbrev pub kind_in : List (List ℕ × ℕ) → List ℕ → Option ℕ
+kind_in [] name = None
+kind_in (row ∷ rows) name = if bytes_eq name row.0 then Some row.1 else kind_in rows name
+
+-- a name that is a kind's
+abbrev pub kind_named : List ℕ → Result ℕ SettingsFault
+kind_named name = ok_or (kind_in watcher_kinds name) fault.Value
+
+-- an array of at most so many numbers as a watcher may be loaded with
+abbrev pub numbers_of : Data → Result (List ℕ) SettingsFault
+numbers_of value = having (array_of numbers_most value) (each_of (number_of 0 greatest_number))
+
+-- the watcher of a kind with the numbers at `numbers`
+abbrev pub watcher_of_kind : Members → ℕ → Result WatcherSetting SettingsFault
+watcher_of_kind members kind =
+    having (value_at (codes "numbers") members) (λ value. having (numbers_of value) (λ numbers. Ok (record { kind = kind; numbers = numbers })))
+
+-- the watcher of a kind: no key but these, and then its numbers
+abbrev pub watcher_by_kind : Members → ℕ → Result WatcherSetting SettingsFault
+watcher_by_kind members kind = only (codes "kind" ∷ codes "numbers" ∷ []) members (watcher_of_kind members kind)
+
+-- the watcher that a table says, by its kind
+abbrev pub watcher_of : Members → Result WatcherSetting SettingsFault
+watcher_of members =
+    having (value_at (codes "kind") members) (λ value. having (text_of value) (λ name. having (kind_named name) (watcher_by_kind members)))
+
+-- a value that is a table, and the watcher that it says
+abbrev pub watcher_in : Data → Result WatcherSetting SettingsFault
+watcher_in value = having (ok_or (as_table value) fault.Value) watcher_of
+
+-- few tables, each of them a watcher
+abbrev pub watchers_of : Data → Result (List WatcherSetting) SettingsFault
+watchers_of value = having (tables_of WATCHERS value) (each_of watcher_in)
+
 -- ---- the document
 
 -- what the value at a key says, or something else where the key is absent
@@ -172,15 +233,16 @@ at_key key silent read members = option_map_or read (get_member key members) (Ok
 
 -- the keys that settings have
 abbrev pub known_keys : List (List ℕ)
-known_keys = codes "depth" ∷ codes "width" ∷ codes "filter" ∷ []
+known_keys = codes "depth" ∷ codes "width" ∷ codes "filter" ∷ codes "watcher" ∷ []
 
--- no key that settings don't have, and then depth, width and the filters
+-- no key that settings don't have, and then depth, width, the filters and the watchers
 abbrev pub settings_of : Members → Result Settings SettingsFault
 settings_of members = only known_keys members (
     having (at_key (codes "depth") DEPTH_DEFAULT (number_of 0 DEPTH) members) (λ depth.
     having (at_key (codes "width") width_default (number_of 1 WIDTH) members) (λ width.
     having (at_key (codes "filter") [] filters_of members) (λ filters.
-    Ok (record { depth = depth; width = width; filters = filters })))))
+    having (at_key (codes "watcher") [] watchers_of members) (λ watchers.
+    Ok (record { depth = depth; width = width; filters = filters; watchers = watchers }))))))
 
 -- the settings of a table, where `toml` read one
 abbrev pub read_document : Option Members → Result Settings SettingsFault

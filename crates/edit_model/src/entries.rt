@@ -1,5 +1,6 @@
 //! What is logged of a command.
 
+use crate::events::TextEvent;
 use edit_base::Verdict;
 
 /// A verdict, and the number that is printed behind its name: the present length behind `order`, `beyond` and `below`,
@@ -11,7 +12,7 @@ pub struct Logged {
     pub number: u32,
 }
 
-/// One entry for each edit. `depth` is 0 for a command's own edits.
+/// One entry for each edit and for each callback. `depth` is 0 for a command's own edits.
 #[derive(Clone, Copy, Debug, PartialEq, Eq)]
 pub enum LogEntry {
     /// A replacement with its places as asked; `units` counts the incoming units as given.
@@ -36,5 +37,20 @@ pub enum LogEntry {
         depth: u32,
         id: u32,
         logged: Logged,
+    },
+    /// The watcher in a slot was told of a replacement before it.
+    Before {
+        slot: u8,
+        event: TextEvent,
+    },
+    /// It was told of the replacement right after it.
+    Changed {
+        slot: u8,
+        event: TextEvent,
+    },
+    /// It was told of the replacement when every other had been told of it too, and could answer.
+    After {
+        slot: u8,
+        event: TextEvent,
     },
 }

@@ -3,26 +3,38 @@
 
 mod commands;
 mod entries;
+mod events;
 mod examples;
 mod faults;
 mod filters;
+mod items;
 mod kinds;
 mod laws;
+mod machine_laws;
+mod mind_laws;
 mod operations;
 mod replies;
+mod settings;
+mod shelf_laws;
 mod steps;
 
 pub use commands::Command;
 pub use entries::{LogEntry, Logged};
+pub use events::{SpanChange, SpanEvent, TextEvent};
 pub use examples::{attaches_spans, filters_texts, prints_lines, reads_lines};
 pub use faults::{SettingsFault, TraceFault};
 pub use filters::{Filter, UnitRange};
+pub use items::Item;
 pub use kinds::{EndKind, Kind};
 pub use laws::{
     commands_bring_what_fits, edits_keep_states_well_formed,
     edits_that_are_not_done_change_nothing, ends_stay_where_they_may, filters_keep_places,
     incoming_spans_are_attached_once, lines_are_cut_at_newlines,
 };
+pub use machine_laws::{edits_that_are_not_done_tell_nobody, runs_end};
+pub use mind_laws::{answers_are_brief, answers_events, minds_keep_their_numbers};
 pub use operations::Op;
 pub use replies::Reply;
+pub use settings::WatcherSetting;
+pub use shelf_laws::shelves_are_loaded;
 pub use steps::Step;

@@ -1,8 +1,8 @@
-//! What is answered to a command that isn't an edit.
+//! What is answered to a command that isn't an edit, and to a reading of a trace.
 
 use crate::entries::Logged;
 
-/// One line in answer to a command.
+/// One line in answer.
 #[derive(Clone, Copy, Debug, PartialEq, Eq)]
 pub enum Reply {
     /// A verdict, as on a query whose range is refused.
@@ -11,4 +11,6 @@ pub enum Reply {
     Found(u32),
     /// The next place where a span starts or ends.
     Edge(u32),
+    /// How many commands a trace has that was read and not run.
+    Checked(u32),
 }

@@ -119,6 +119,7 @@ impl SpannedText {
     pub fn halves(&self) -> (&[u16], &[u16])
         ensures joined { result.0.now ++ result.1.now ≡ self.now.state.units }
         ensures cut { length result.0.now ≡ self.now.gap }
+        ensures limit { length (result.0.now ++ result.1.now) ≤ Limits.TEXT }
     {
         let text = halves_of(&self.units);
         (text.left, text.right)

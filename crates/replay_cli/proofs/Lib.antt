@@ -1,8 +1,9 @@
 pub mod Appending
 pub mod CheckRuns
 pub mod Cutting
-pub mod Entries
+pub mod ItemRuns
 pub mod Known
 pub mod LineRuns
+pub mod LoadedShelves
 pub mod SettingUp
 pub mod Traces

@@ -3,38 +3,37 @@ use Rattle.std.proofs.Common.{◌≡◌, ℕ, ◌+◌, List, [], ◌∷◌, ◌+
 use Rattle.std.specs.List.{concat}
 use Rattle.std.proofs.lemmas.List.{append-nil}
 use Rattle.std.proofs.Math.Seq.{take-append-add}
-use Rattle.edit_model.specs.Settings.{Settings}
-use Rattle.edit_model.specs.State.{State}
+use Rattle.edit_model.specs.Machine.{Setup}
+use Rattle.edit_model.specs.Minds.{Mind}
 use Rattle.edit_model.specs.declared.commands.Command.{Command}
-use Rattle.edit_model.specs.Printed.{end_block}
 use Rattle.edit_model.specs.Lines.{is_blank, open_line}
 use Rattle.edit_model.specs.Reading.{read_command, IsFitting}
 use Rattle.edit_model.specs.declared.faults.TraceFault.{TraceFault}
-use Rattle.edit_model.specs.Output.{Line, blank, command, faulty, as_line, line_of, line_run, run_lines, Played, Ending, finished, faulty_line, too_long, stopped, ended, cut_off, behind, bytes_of, command_bytes, state_behind}
+use Rattle.edit_model.specs.Output.{Line, blank, command, faulty, as_line, line_of, line_run, run_lines, Played, Session, Ending, finished, faulty_line, too_long, stopped, ended, cut_off, behind, bytes_of, command_bytes, session_behind}
 use Rattle.edit_model.proofs.Readings.{fits-read_command}
 use Rattle.replay_io.specs.Outside.{with_more}
 use Rattle.replay_cli.specs.declared.player.LineOutcome.{LineOutcome}
 use Rattle.replay_cli.specs.declared.player.LineOutcome.TheVariants.{Next, Stop}
 use Rattle.replay_cli.specs.declared.status.Status.{Status}
 use Rattle.replay_cli.specs.declared.status.Status.TheVariants as status
-use Rattle.replay_cli.specs.Runs.{Writes}
+use Rattle.replay_cli.specs.Runs.{Writes, Keeps}
 use Rattle.replay_cli.specs.Lines.{lines_in}
 use Rattle.replay_cli.specs.Steps.{close_of, behind_all, Reached, LineGives, CommandGives}
 use Rattle.replay_cli.proofs.Known.{with_more-none, with_more-twice, concat-append, take-before}
 
 -- ---- one line
 
-pub run-line : (settings : Settings) (close : ℕ → State → Played) (number : ℕ) (state : State) (line : List ℕ) (lines : List (List ℕ)) (it : Line)
+pub run-line : (r : Setup) (close : ℕ → Session → Played) (number : ℕ) (session : Session) (line : List ℕ) (lines : List (List ℕ)) (it : Line)
     → it ≡ line_of line
-    → run_lines settings close number state (line ∷ lines) ≡ line_run settings number state it (λ next. run_lines settings close (number + 1) next lines)
+    → run_lines r close number session (line ∷ lines) ≡ line_run r number session it (λ next. run_lines r close (number + 1) next lines)
 unfolding run_lines
-run-line settings close number state line lines it is = ap (λ l. line_run settings number state l (λ next. run_lines settings close (number + 1) next lines))
+run-line r close number session line lines it is = ap (λ l. line_run r number session l (λ next. run_lines r close (number + 1) next lines))
     (sym is)
 
-pub run-nothing : (settings : Settings) (close : ℕ → State → Played) (number : ℕ) (state : State)
-    → run_lines settings close number state [] ≡ close number state
+pub run-nothing : (r : Setup) (close : ℕ → Session → Played) (number : ℕ) (session : Session)
+    → run_lines r close number session [] ≡ close number session
 unfolding run_lines
-run-nothing settings close number state = refl
+run-nothing r close number session = refl
 
 -- nothing was written yet
 pub reached-itself : (whole left : Played) (known : Option (List ℕ)) → whole ≡ left → Reached whole left known known
@@ -111,6 +110,22 @@ writes_behind whole left status.NoMemory old now new reached writes = some_comma
 writes_behind whole left status.TraceTooLong old now new reached writes =
     (same_ending whole left old now too_long reached writes.0, all_written whole left old now new reached writes.1)
 
+-- what the watchers keep at the end of the rest is what they keep at the end of the whole
+pub keeps_behind : (whole left : Played) (answer : Status) (old now : Option (List ℕ)) (minds : List Mind) → Reached whole left old now
+    → Keeps left answer minds → Keeps whole answer minds
+keeps_behind whole left answer old now minds reached keeps =
+    let same : left.minds ≡ whole.minds = sym (ap (λ played. played.minds) reached.is) in keeps_same left whole answer minds same keeps
+  where
+    keeps_same : (some other : Played) (answer : Status) (minds : List Mind) → some.minds ≡ other.minds → Keeps some answer minds → Keeps other answer minds
+    keeps_same some other status.Done minds same keeps = keeps ∙ same
+    keeps_same some other status.Usage minds same keeps = tt
+    keeps_same some other (status.TraceFault line kind) minds same keeps = keeps ∙ same
+    keeps_same some other (status.SettingsFault kind) minds same keeps = tt
+    keeps_same some other status.ReadFault minds same keeps = tt
+    keeps_same some other status.WriteFault minds same keeps = tt
+    keeps_same some other status.NoMemory minds same keeps = tt
+    keeps_same some other status.TraceTooLong minds same keeps = keeps ∙ same
+
 -- the runs join
 pub reached-twice : (whole left last : Played) (old now new : Option (List ℕ)) → Reached whole left old now → Reached left last now new
     → Reached whole last old new
@@ -122,97 +137,89 @@ reached-twice whole left last old now new first second = record {
 }
   where
     joined : (xs ys : List (List ℕ)) (played : Played) → behind_all xs (behind_all ys played) ≡ behind_all (xs ++ ys) played
-    joined xs ys played = ap (λ commands. record { commands = commands; last = played.last; ending = played.ending }) (sym (append_assoc xs ys played.commands))
+    joined xs ys played =
+        ap (λ commands. record { commands = commands; last = played.last; ending = played.ending; minds = played.minds })
+        (sym (append_assoc xs ys played.commands))
 
 -- ---- a command that was written, or wasn't
 
 -- the run behind a command
-pub command-goes : (settings : Settings) (number : ℕ) (state : State) (line : List ℕ) (asked : Command) (after : State) (end : LineOutcome)
+pub command-goes : (r : Setup) (number : ℕ) (session : Session) (line : List ℕ) (asked : Command) (after : Session) (end : LineOutcome)
     (old new : Option (List ℕ)) → command asked ≡ line_of line
-    → CommandGives (command_bytes settings number state asked) (state_behind settings state asked) after end old new
-    → LineGives settings number state line after end old new
-command-goes settings number state line asked after Next old new is gives = λ close lines. record {
-  pieces = command_bytes settings number state asked ∷ [];
-  is = run-line settings close number state line lines (command asked) is
-      ∙ ap (λ next. behind (command_bytes settings number state asked) (run_lines settings close (number + 1) next lines)) (sym gives.0);
-  written = gives.1 ∙ ap (with_more old) (sym (append-nil (command_bytes settings number state asked)));
+    → CommandGives (command_bytes r number session asked) (session_behind r session asked) after end old new
+    → LineGives r number session line after end old new
+command-goes r number session line asked after Next old new is gives = λ close lines. record {
+  pieces = command_bytes r number session asked ∷ [];
+  is = run-line r close number session line lines (command asked) is
+      ∙ ap (λ next. behind (command_bytes r number session asked) (run_lines r close (number + 1) next lines)) (sym gives.0);
+  written = gives.1 ∙ ap (with_more old) (sym (append-nil (command_bytes r number session asked)));
 }
-command-goes settings number state line asked after (Stop status.Done) old new is gives = absurd gives
-command-goes settings number state line asked after (Stop status.Usage) old new is gives = absurd gives
-command-goes settings number state line asked after (Stop (status.TraceFault at kind)) old new is gives = absurd gives
-command-goes settings number state line asked after (Stop (status.SettingsFault kind)) old new is gives = absurd gives
-command-goes settings number state line asked after (Stop status.ReadFault) old new is gives = absurd gives
-command-goes settings number state line asked after (Stop status.WriteFault) old new is gives = λ close lines.
-    let bytes = command_bytes settings number state asked in
-    let rest = run_lines settings close (number + 1) (state_behind settings state asked) lines in
+command-goes r number session line asked after (Stop status.Done) old new is gives = absurd gives
+command-goes r number session line asked after (Stop status.Usage) old new is gives = absurd gives
+command-goes r number session line asked after (Stop (status.TraceFault at kind)) old new is gives = absurd gives
+command-goes r number session line asked after (Stop (status.SettingsFault kind)) old new is gives = absurd gives
+command-goes r number session line asked after (Stop status.ReadFault) old new is gives = absurd gives
+command-goes r number session line asked after (Stop status.WriteFault) old new is gives = λ close lines.
+    let bytes = command_bytes r number session asked in
+    let rest = run_lines r close (number + 1) (session_behind r session asked) lines in
     let t = take-before bytes (concat rest.commands ++ rest.last) gives.0 in (
-      t.0,
-      gives.1 ∙ ap (with_more old) (t.1 ∙ ap (take t.0)
-          (sym (append_assoc bytes (concat rest.commands) rest.last) ∙ ap bytes_of (sym (run-line settings close number state line lines (command asked) is)))),
+      (
+        t.0,
+        gives.1 ∙ ap (with_more old) (t.1 ∙ ap (take t.0)
+            (sym (append_assoc bytes (concat rest.commands) rest.last) ∙ ap bytes_of (sym (run-line r close number session line lines (command asked) is)))),
+      ),
+      tt,
     )
-command-goes settings number state line asked after (Stop status.NoMemory) old new is gives = λ close lines. (0, gives ∙ with_more-none old)
-command-goes settings number state line asked after (Stop status.TraceTooLong) old new is gives = absurd gives
-
--- ---- behind the lines
-
-pub end-written : (number : ℕ) (state : State) (old new : Option (List ℕ)) (bytes : List ℕ) → bytes ≡ end_block state → new ≡ with_more old bytes
-    → Writes (ended number state) status.Done old new
-end-written number state old new bytes is written = (refl, written ∙ ap (with_more old) is)
-
-pub end-partly : (number : ℕ) (state : State) (old new : Option (List ℕ)) (bytes : List ℕ) (count : ℕ) → bytes ≡ end_block state
-    → new ≡ with_more old (take count bytes)
-    → Writes (ended number state) status.WriteFault old new
-end-partly number state old new bytes count is written = (count, written ∙ ap (λ b. with_more old (take count b)) is)
-
--- a run that stopped has written nothing more
-pub stopped-known : (known : Option (List ℕ)) (ending : Ending) → known ≡ with_more known (bytes_of (stopped ending))
-stopped-known known ending = with_more-none known
+command-goes r number session line asked after (Stop status.NoMemory) old new is gives = λ close lines. ((0, gives ∙ with_more-none old), tt)
+command-goes r number session line asked after (Stop status.TraceTooLong) old new is gives = absurd gives
 
 -- ---- lines without output
 
-pub blank-goes : (settings : Settings) (number : ℕ) (state : State) (line : List ℕ) (known : Option (List ℕ)) → blank ≡ line_of line
-    → LineGives settings number state line state Next known known
-blank-goes settings number state line known is = λ close lines.
-    reached-itself (run_lines settings close number state (line ∷ lines)) (run_lines settings close (number + 1) state lines) known
-    (run-line settings close number state line lines blank is)
+pub blank-goes : (r : Setup) (number : ℕ) (session : Session) (line : List ℕ) (known : Option (List ℕ)) → blank ≡ line_of line
+    → LineGives r number session line session Next known known
+blank-goes r number session line known is = λ close lines.
+    reached-itself (run_lines r close number session (line ∷ lines)) (run_lines r close (number + 1) session lines) known
+    (run-line r close number session line lines blank is)
 
-pub faulty-stops : (settings : Settings) (number : ℕ) (state : State) (line : List ℕ) (known : Option (List ℕ)) (kind : TraceFault) → faulty kind ≡ line_of line
-    → LineGives settings number state line state (Stop (status.TraceFault number kind)) known known
-faulty-stops settings number state line known kind is = λ close lines.
-    let e = run-line settings close number state line lines (faulty kind) is in
-    (ap (λ played. played.ending) e, with_more-none known ∙ ap (λ played. with_more known (bytes_of played)) (sym e))
+pub faulty-stops : (r : Setup) (number : ℕ) (session : Session) (line : List ℕ) (known : Option (List ℕ)) (kind : TraceFault) → faulty kind ≡ line_of line
+    → LineGives r number session line session (Stop (status.TraceFault number kind)) known known
+faulty-stops r number session line known kind is = λ close lines.
+    let e = run-line r close number session line lines (faulty kind) is in (
+      (ap (λ played. played.ending) e, with_more-none known ∙ ap (λ played. with_more known (bytes_of played)) (sym e)),
+      sym (ap (λ played. played.minds) e),
+    )
 
 -- ---- the end of the trace
 
-reached-end : (settings : Settings) (whole : Played) (close : ℕ → State → Played) (number : ℕ) (state : State) (lines : List (List ℕ))
+reached-end : (r : Setup) (whole : Played) (close : ℕ → Session → Played) (number : ℕ) (session : Session) (lines : List (List ℕ))
     (old now : Option (List ℕ)) → lines ≡ []
-    → Reached whole (run_lines settings close number state lines) old now → Reached whole (close number state) old now
-reached-end settings whole close number state lines old now none reached =
-    let e = ap (run_lines settings close number state) none ∙ run-nothing settings close number state in rw e at reached
+    → Reached whole (run_lines r close number session lines) old now → Reached whole (close number session) old now
+reached-end r whole close number session lines old now none reached =
+    let e = ap (run_lines r close number session) none ∙ run-nothing r close number session in rw e at reached
 
-cut-close : (is_cut : Bool) (trace rest : List ℕ) (number : ℕ) (state : State) → is_cut ≡ true → (is_cut ≡ true → open_line trace ≡ open_line rest)
-    → (is_cut ≡ true → open_line rest ≡ rest) → close_of is_cut trace number state ≡ stopped (cut_off rest too_long number)
-cut-close true trace rest number state cut same tail = ap (λ t. stopped (cut_off t too_long number)) (same cut ∙ tail cut)
-cut-close false trace rest number state cut same tail = absurd (cc)
+cut-close : (is_cut : Bool) (trace rest : List ℕ) (number : ℕ) (session : Session) → is_cut ≡ true → (is_cut ≡ true → open_line trace ≡ open_line rest)
+    → (is_cut ≡ true → open_line rest ≡ rest) → close_of is_cut trace number session ≡ stopped (cut_off rest too_long number) session.minds
+cut-close true trace rest number session cut same tail = ap (λ t. stopped (cut_off t too_long number) session.minds) (same cut ∙ tail cut)
+cut-close false trace rest number session cut same tail = absurd (cc)
 
-whole-close : (is_cut : Bool) (trace : List ℕ) (number : ℕ) (state : State) → is_cut ≡ false → close_of is_cut trace number state ≡ ended number state
-whole-close true trace number state cut = absurd (cc)
-whole-close false trace number state cut = refl
+whole-close : (is_cut : Bool) (trace : List ℕ) (number : ℕ) (session : Session) → is_cut ≡ false → close_of is_cut trace number session ≡ ended number session
+whole-close true trace number session cut = absurd (cc)
+whole-close false trace number session cut = refl
 
 -- behind the lines of a trace that was cut off
-pub reached-cut : (settings : Settings) (whole : Played) (is_cut : Bool) (trace rest : List ℕ) (number : ℕ) (state : State) (old now : Option (List ℕ))
+pub reached-cut : (r : Setup) (whole : Played) (is_cut : Bool) (trace rest : List ℕ) (number : ℕ) (session : Session) (old now : Option (List ℕ))
     → is_cut ≡ true
     → (is_cut ≡ true → open_line trace ≡ open_line rest) → (is_cut ≡ true → open_line rest ≡ rest) → lines_in is_cut rest ≡ []
-    → Reached whole (run_lines settings (close_of is_cut trace) number state (lines_in is_cut rest)) old now
-    → Reached whole (stopped (cut_off rest too_long number)) old now
-reached-cut settings whole is_cut trace rest number state old now cut same tail none reached =
-    let end = reached-end settings whole (close_of is_cut trace) number state (lines_in is_cut rest) old now none reached in
-    let e = cut-close is_cut trace rest number state cut same tail in rw e at end
+    → Reached whole (run_lines r (close_of is_cut trace) number session (lines_in is_cut rest)) old now
+    → Reached whole (stopped (cut_off rest too_long number) session.minds) old now
+reached-cut r whole is_cut trace rest number session old now cut same tail none reached =
+    let end = reached-end r whole (close_of is_cut trace) number session (lines_in is_cut rest) old now none reached in
+    let e = cut-close is_cut trace rest number session cut same tail in rw e at end
 
 -- behind the lines of a whole trace
-pub reached-whole : (settings : Settings) (whole : Played) (is_cut : Bool) (trace rest : List ℕ) (number : ℕ) (state : State) (old now : Option (List ℕ))
+pub reached-whole : (r : Setup) (whole : Played) (is_cut : Bool) (trace rest : List ℕ) (number : ℕ) (session : Session) (old now : Option (List ℕ))
     → is_cut ≡ false → lines_in is_cut rest ≡ []
-    → Reached whole (run_lines settings (close_of is_cut trace) number state (lines_in is_cut rest)) old now → Reached whole (ended number state) old now
-reached-whole settings whole is_cut trace rest number state old now cut none reached =
-    let end = reached-end settings whole (close_of is_cut trace) number state (lines_in is_cut rest) old now none reached in
-    let e = whole-close is_cut trace number state cut in rw e at end
+    → Reached whole (run_lines r (close_of is_cut trace) number session (lines_in is_cut rest)) old now → Reached whole (ended number session) old now
+reached-whole r whole is_cut trace rest number session old now cut none reached =
+    let end = reached-end r whole (close_of is_cut trace) number session (lines_in is_cut rest) old now none reached in
+    let e = whole-close is_cut trace number session cut in rw e at end

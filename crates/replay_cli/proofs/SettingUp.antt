@@ -1,9 +1,9 @@
 -- What a run asks for and leaves, by its settings and its trace.
-use Rattle.std.proofs.Common.{◌≡◌, ℕ, ◌<◌, ◌++◌, List, [], ◌∷◌, length, map, Option, Some, None, Result, Ok, Err, IfSome, refl, sym, ap, ◌∙◌, inl, inr, append_assoc, arith}
+use Rattle.std.proofs.Common.{◌≡◌, ℕ, ◌<◌, ◌++◌, true, false, List, [], ◌∷◌, length, map, Option, Some, None, Result, Ok, Err, IfSome, refl, sym, ap, ◌∙◌, inl, inr, append_assoc, arith}
 use Rattle.std.specs.Prelude.{nat_lt, ◌⊎◌}
 use Rattle.std.specs.Option.{option_map}
 use Rattle.std.proofs.lemmas.List.{append-nil}
-use Rattle.std.proofs.lemmas.Bool.{cond-true}
+use Rattle.std.proofs.lemmas.Bool.{cond-true, cond-false}
 use Rattle.std.proofs.lemmas.Bool.Decides.{nat_tests}
 use Rattle.edit_base.specs.declared.bounds.TheConstants.Limits.{SETTINGS_BYTES}
 use Rattle.edit_model.specs.declared.faults.SettingsFault.{SettingsFault}
@@ -12,16 +12,21 @@ use Rattle.edit_model.specs.Settings as plain
 use Rattle.settings_reader.specs.declared.settings.Settings.{Settings}
 use Rattle.settings_reader.specs.Seen.{as_settings}
 use Rattle.edit_model.specs.Settings.{read_settings, read_document, toml_of}
-use Rattle.edit_model.specs.Output.{finished}
+use Rattle.edit_model.specs.declared.settings.WatcherSetting.{WatcherSetting}
+use Rattle.edit_model.specs.Machine.{Setup}
+use Rattle.edit_model.specs.Minds.{Mind}
+use Rattle.edit_model.specs.Shelves.{loaded_shelf}
+use Rattle.edit_model.specs.Output.{finished, Prepared, prepared, setup}
 use Rattle.replay_io.specs.declared.faults.ReadFault.TheVariants as fault
 use Rattle.replay_io.specs.declared.whole_files.ReadEnd.TheVariants.{Whole, Over}
 use Rattle.replay_io.specs.Outside.{Asked, begun_name, Gains, AsksOnce}
 use Rattle.replay_cli.specs.declared.status.Status.{Status}
 use Rattle.replay_cli.specs.declared.status.Status.TheVariants as status
 use Rattle.replay_cli.specs.declared.requests.Task.{Task}
-use Rattle.replay_cli.specs.Runs.{name_list, BeganSome, AskedNext, AsksFor, given, LeavesTrace, Leaves, IsSet, IsReady}
+use Rattle.replay_cli.specs.Runs.{name_list, BeganSome, AskedNext, AsksFor, given, Requested, told_settings, told_setup, LeavesTrace, LeavesBy, Leaves, LeavesFor, Keeps, KeepsBy, KeepsMinds, IsSet, IsReadyBy, IsReady}
 use Rattle.replay_cli.specs.SetUps.{SetsUp, settings_list, SetUpAsks, TraceAsks, Settles}
 use Rattle.replay_cli.proofs.Known.{with_more-none}
+use Rattle.replay_cli.proofs.LoadedShelves.{none-fits}
 
 -- ---- a settings file
 
@@ -151,62 +156,209 @@ asks-stopped task settings trace status.NoMemory old new asks = record {
 }
 asks-stopped task settings trace status.TraceTooLong old new asks = absurd asks
 
+-- ---- what a run is set to
+
+-- where it is told, the minds of the shelf are these then, and it is set to this or has this fault
+abbrev pub IsPrepared : Option Prepared → List Mind → Result Setup SettingsFault → Type 0
+IsPrepared told minds found = IfSome told (λ it. (it.minds ≡ minds) × (it.found ≡ found))
+
+module _ (told : Option (Result plain.Settings SettingsFault)) (it : Settings) (minds after : List Mind) (sets : SetsUp (Ok it) told)
+    (kept : after ≡ (loaded_shelf it.watchers minds).minds) where
+  -- the settings were read, and their watchers were loaded
+  pub prepared-ok : (slots : List ℕ) → (loaded_shelf it.watchers minds).fits ≡ true → slots ≡ (loaded_shelf it.watchers minds).slots
+      → IsPrepared (option_map (λ found. prepared found minds) told) after (Ok (setup (as_settings it) slots))
+  prepared-ok slots fits taken = of told sets
+    where
+      of : (told : Option (Result plain.Settings SettingsFault)) → SetsUp (Ok it) told
+          → IsPrepared (option_map (λ found. prepared found minds) told) after (Ok (setup (as_settings it) slots))
+      of None sets = tt
+      of (Some found) sets = (
+        ap (λ f. (prepared f minds).minds) sets ∙ sym kept,
+        ap (λ f. (prepared f minds).found) sets
+            ∙ cond-true (loaded_shelf it.watchers minds).fits (Ok (setup (as_settings it) (loaded_shelf it.watchers minds).slots)) (Err setting.Watcher) fits
+            ∙ ap (λ places. Ok (setup (as_settings it) places)) (sym taken),
+      )
+
+  -- the settings were read, and one of their watchers wasn't loaded
+  pub prepared-err : (loaded_shelf it.watchers minds).fits ≡ false → IsPrepared (option_map (λ found. prepared found minds) told) after (Err setting.Watcher)
+  prepared-err fails = of told sets
+    where
+      of : (told : Option (Result plain.Settings SettingsFault)) → SetsUp (Ok it) told
+          → IsPrepared (option_map (λ found. prepared found minds) told) after (Err setting.Watcher)
+      of None sets = tt
+      of (Some found) sets = (
+        ap (λ f. (prepared f minds).minds) sets ∙ sym kept,
+        ap (λ f. (prepared f minds).found) sets
+            ∙ cond-false (loaded_shelf it.watchers minds).fits (Ok (setup (as_settings it) (loaded_shelf it.watchers minds).slots)) (Err setting.Watcher) fails,
+      )
+
+-- the built-in settings ask for no watcher, so that only those of a file can fail to load
+pub asks-unloaded : (task : Task) (settings : Option (List ℕ)) (stands : List ℕ → Option (List ℕ)) (trace : List ℕ) (it : Settings) (minds : List Mind)
+    (kind : SettingsFault) (old new : List Asked) → SetsUp (Ok it) (told_settings settings stands) → (loaded_shelf it.watchers minds).fits ≡ false
+    → SetUpAsks settings (Ok it) old new
+    → AsksFor (Some (record { task = task; settings = settings; trace = trace })) (status.SettingsFault kind) old new
+asks-unloaded task None stands trace it minds kind old new sets fails asks =
+    let none : (loaded_shelf it.watchers minds).fits ≡ true =
+    none-fits it.watchers minds (ap (λ f. watchers_asked f) (sym sets)) in
+    absurd (cc)
+  where
+    watchers_asked : Result plain.Settings SettingsFault → List WatcherSetting
+    watchers_asked (Ok settings) = settings.watchers
+    watchers_asked (Err found) = []
+asks-unloaded task (Some name) stands trace it minds kind old new sets fails asks = asks
+
 -- ---- what a run leaves
 
--- the run stopped at the settings
-pub leaves-stopped : (task : Task) (told : Option (Result plain.Settings SettingsFault)) (trace : Option (List ℕ)) (answer : Status)
-    (left known : Option (List ℕ))
-    → SetsUp (Err answer) told → Leaves task told trace answer left known known
-leaves-stopped task None trace answer left known sets = tt
-leaves-stopped task (Some (Err found)) trace status.Done left known sets = sets
-leaves-stopped task (Some (Err found)) trace status.Usage left known sets = sets
-leaves-stopped task (Some (Err found)) trace (status.TraceFault line kind) left known sets = sets
-leaves-stopped task (Some (Err found)) trace (status.SettingsFault kind) left known sets = let e : kind ≡ found = cc in (e, refl)
-leaves-stopped task (Some (Err found)) trace status.ReadFault left known sets = refl
-leaves-stopped task (Some (Err found)) trace status.WriteFault left known sets = sets
-leaves-stopped task (Some (Err found)) trace status.NoMemory left known sets = refl
-leaves-stopped task (Some (Err found)) trace status.TraceTooLong left known sets = sets
-leaves-stopped task (Some (Ok it)) trace status.Done left known sets = absurd sets
-leaves-stopped task (Some (Ok it)) trace status.Usage left known sets = absurd sets
-leaves-stopped task (Some (Ok it)) trace (status.TraceFault line kind) left known sets = absurd sets
-leaves-stopped task (Some (Ok it)) trace (status.SettingsFault kind) left known sets = absurd (cc)
-leaves-stopped task (Some (Ok it)) None status.ReadFault left known sets = tt
-leaves-stopped task (Some (Ok it)) (Some bytes) status.ReadFault left known sets = refl
-leaves-stopped task (Some (Ok it)) trace status.WriteFault left known sets = absurd sets
-leaves-stopped task (Some (Ok it)) None status.NoMemory left known sets = tt
-leaves-stopped task (Some (Ok it)) (Some bytes) status.NoMemory left known sets = (0, with_more-none known)
-leaves-stopped task (Some (Ok it)) trace status.TraceTooLong left known sets = absurd sets
+module _ (task : Task) (minds : List Mind) where
+  -- nothing was written yet
+  leaves-unread : (found : Result Setup SettingsFault) (trace : Option (List ℕ)) (left known : Option (List ℕ))
+      → LeavesBy task minds found trace status.ReadFault left known known
+  leaves-unread (Err it) trace left known = refl
+  leaves-unread (Ok r) None left known = tt
+  leaves-unread (Ok r) (Some bytes) left known = refl
 
--- the settings were read, and the trace was run or checked
-pub leaves-run : (task : Task) (told : Option (Result plain.Settings SettingsFault)) (trace : Option (List ℕ)) (it : Settings) (answer : Status)
-    (left old new : Option (List ℕ))
-    → SetsUp (Ok it) told → IsSet answer → IfSome trace (λ bytes. LeavesTrace (as_settings it) task bytes answer left old new)
-    → Leaves task told trace answer left old new
-leaves-run task None trace it answer left old new sets set leaves = tt
-leaves-run task (Some (Err found)) trace it answer left old new sets set leaves = absurd (cc)
-leaves-run task (Some (Ok other)) None it answer left old new sets set leaves = set
-leaves-run task (Some (Ok other)) (Some bytes) it answer left old new sets set leaves = let e : other ≡ as_settings it = cc in rw e leaves
+  leaves-wanting : (found : Result Setup SettingsFault) (trace : Option (List ℕ)) (left known : Option (List ℕ))
+      → LeavesBy task minds found trace status.NoMemory left known known
+  leaves-wanting (Err it) trace left known = refl
+  leaves-wanting (Ok r) None left known = tt
+  leaves-wanting (Ok r) (Some bytes) left known = (0, with_more-none known)
+
+  keeps-unread : (found : Result Setup SettingsFault) (trace : Option (List ℕ)) (after : List Mind) → KeepsBy task minds found trace status.ReadFault after
+  keeps-unread (Err it) trace after = tt
+  keeps-unread (Ok r) None after = tt
+  keeps-unread (Ok r) (Some bytes) after = tt
+
+  keeps-wanting : (found : Result Setup SettingsFault) (trace : Option (List ℕ)) (after : List Mind) → KeepsBy task minds found trace status.NoMemory after
+  keeps-wanting (Err it) trace after = tt
+  keeps-wanting (Ok r) None after = tt
+  keeps-wanting (Ok r) (Some bytes) after = tt
+
+-- the run stopped at the settings
+pub leaves-stopped : (task : Task) (told : Option (Result plain.Settings SettingsFault)) (minds : List Mind) (trace : Option (List ℕ)) (answer : Status)
+    (left known : Option (List ℕ))
+    → SetsUp (Err answer) told → Leaves task (option_map (λ found. prepared found minds) told) trace answer left known known
+leaves-stopped task None minds trace answer left known sets = tt
+leaves-stopped task (Some (Err found)) minds trace status.Done left known sets = sets
+leaves-stopped task (Some (Err found)) minds trace status.Usage left known sets = sets
+leaves-stopped task (Some (Err found)) minds trace (status.TraceFault line kind) left known sets = sets
+leaves-stopped task (Some (Err found)) minds trace (status.SettingsFault kind) left known sets = let e : kind ≡ found = cc in (e, refl)
+leaves-stopped task (Some (Err found)) minds trace status.ReadFault left known sets = refl
+leaves-stopped task (Some (Err found)) minds trace status.WriteFault left known sets = sets
+leaves-stopped task (Some (Err found)) minds trace status.NoMemory left known sets = refl
+leaves-stopped task (Some (Err found)) minds trace status.TraceTooLong left known sets = sets
+leaves-stopped task (Some (Ok it)) minds trace status.Done left known sets = absurd sets
+leaves-stopped task (Some (Ok it)) minds trace status.Usage left known sets = absurd sets
+leaves-stopped task (Some (Ok it)) minds trace (status.TraceFault line kind) left known sets = absurd sets
+leaves-stopped task (Some (Ok it)) minds trace (status.SettingsFault kind) left known sets = absurd (cc)
+leaves-stopped task (Some (Ok it)) minds trace status.ReadFault left known sets =
+    leaves-unread task (prepared (Ok it) minds).minds (prepared (Ok it) minds).found trace left known
+leaves-stopped task (Some (Ok it)) minds trace status.WriteFault left known sets = absurd sets
+leaves-stopped task (Some (Ok it)) minds trace status.NoMemory left known sets =
+    leaves-wanting task (prepared (Ok it) minds).minds (prepared (Ok it) minds).found trace left known
+leaves-stopped task (Some (Ok it)) minds trace status.TraceTooLong left known sets = absurd sets
+
+-- the minds of the shelf are as before then
+pub keeps-stopped : (task : Task) (told : Option (Result plain.Settings SettingsFault)) (minds : List Mind) (trace : Option (List ℕ)) (answer : Status)
+    → SetsUp (Err answer) told → KeepsMinds task (option_map (λ found. prepared found minds) told) trace answer minds
+keeps-stopped task None minds trace answer sets = tt
+keeps-stopped task (Some (Err found)) minds trace status.Done sets = tt
+keeps-stopped task (Some (Err found)) minds trace status.Usage sets = tt
+keeps-stopped task (Some (Err found)) minds trace (status.TraceFault line kind) sets = tt
+keeps-stopped task (Some (Err found)) minds trace (status.SettingsFault kind) sets = refl
+keeps-stopped task (Some (Err found)) minds trace status.ReadFault sets = tt
+keeps-stopped task (Some (Err found)) minds trace status.WriteFault sets = tt
+keeps-stopped task (Some (Err found)) minds trace status.NoMemory sets = tt
+keeps-stopped task (Some (Err found)) minds trace status.TraceTooLong sets = tt
+keeps-stopped task (Some (Ok it)) minds trace status.Done sets = absurd sets
+keeps-stopped task (Some (Ok it)) minds trace status.Usage sets = absurd sets
+keeps-stopped task (Some (Ok it)) minds trace (status.TraceFault line kind) sets = absurd sets
+keeps-stopped task (Some (Ok it)) minds trace (status.SettingsFault kind) sets = absurd (cc)
+keeps-stopped task (Some (Ok it)) minds trace status.ReadFault sets =
+    keeps-unread task (prepared (Ok it) minds).minds (prepared (Ok it) minds).found trace minds
+keeps-stopped task (Some (Ok it)) minds trace status.WriteFault sets = absurd sets
+keeps-stopped task (Some (Ok it)) minds trace status.NoMemory sets =
+    keeps-wanting task (prepared (Ok it) minds).minds (prepared (Ok it) minds).found trace minds
+keeps-stopped task (Some (Ok it)) minds trace status.TraceTooLong sets = absurd sets
+
+module _ (task : Task) (minds : List Mind) (trace : Option (List ℕ)) where
+  -- the run stopped at the shelf
+  pub leaves-unloaded : (told : Option Prepared) (kind : SettingsFault) (left known : Option (List ℕ)) → kind ≡ setting.Watcher
+      → IsPrepared told minds (Err setting.Watcher) → Leaves task told trace (status.SettingsFault kind) left known known
+  leaves-unloaded None kind left known is found = tt
+  leaves-unloaded (Some it) kind left known is found = rw found.1 (is, refl)
+
+  pub keeps-unloaded : (told : Option Prepared) (kind : SettingsFault) → IsPrepared told minds (Err setting.Watcher)
+      → KeepsMinds task told trace (status.SettingsFault kind) minds
+  keeps-unloaded None kind found = tt
+  keeps-unloaded (Some it) kind found = rw found.1 (sym found.0)
+
+  module _ (r : Setup) (answer : Status) where
+    leaves-by : (left old new : Option (List ℕ)) → IsSet answer → IfSome trace (λ bytes. LeavesTrace r minds task bytes answer left old new)
+        → LeavesBy task minds (Ok r) trace answer left old new
+    leaves-by left old new set leaves = of trace leaves
+      where
+        of : (trace : Option (List ℕ)) → IfSome trace (λ bytes. LeavesTrace r minds task bytes answer left old new)
+            → LeavesBy task minds (Ok r) trace answer left old new
+        of None leaves = set
+        of (Some bytes) leaves = leaves
+
+    -- the watchers were loaded, and the trace was run or checked
+    pub leaves-run : (told : Option Prepared) (left old new : Option (List ℕ)) → IsPrepared told minds (Ok r)
+        → IsSet answer → IfSome trace (λ bytes. LeavesTrace r minds task bytes answer left old new) → Leaves task told trace answer left old new
+    leaves-run None left old new found set leaves = tt
+    leaves-run (Some it) left old new found set leaves = rw found.0 (rw found.1 (leaves-by left old new set leaves))
+
+    keeps-by : (after : List Mind) → IfSome trace (λ bytes. Keeps (given r minds task bytes) answer after) → KeepsBy task minds (Ok r) trace answer after
+    keeps-by after keeps = of trace keeps
+      where
+        of : (trace : Option (List ℕ)) → IfSome trace (λ bytes. Keeps (given r minds task bytes) answer after)
+            → KeepsBy task minds (Ok r) trace answer after
+        of None keeps = tt
+        of (Some bytes) keeps = keeps
+
+    pub keeps-run : (told : Option Prepared) (after : List Mind) → IsPrepared told minds (Ok r)
+        → IfSome trace (λ bytes. Keeps (given r minds task bytes) answer after) → KeepsMinds task told trace answer after
+    keeps-run None after found keeps = tt
+    keeps-run (Some it) after found keeps = rw found.0 (rw found.1 (keeps-by after keeps))
+
+-- there was no memory before anything was asked for
+wanting : (task : Task) (told : Option Prepared) (trace left known : Option (List ℕ)) → Leaves task told trace status.NoMemory left known known
+wanting task None trace left known = tt
+wanting task (Some it) trace left known = leaves-wanting task it.minds it.found trace left known
+
+pub leaves-nothing : (asked : Option Requested) (stands : List ℕ → Option (List ℕ)) (minds : List Mind) (left old new : Option (List ℕ)) → new ≡ old
+    → LeavesFor asked stands minds status.NoMemory left old new
+leaves-nothing None stands minds left old new same = same
+leaves-nothing (Some it) stands minds left old new same = rw same (wanting it.task (told_setup it.settings stands minds) (stands it.trace) left old)
 
 -- ---- completeness
 
-complete-trace : (settings : plain.Settings) (task : Task) (bytes : List ℕ) (answer : Status) (left old new : Option (List ℕ))
-    → (given settings task bytes).ending ≡ finished → LeavesTrace settings task bytes answer left old new
+complete-trace : (r : Setup) (minds : List Mind) (task : Task) (bytes : List ℕ) (answer : Status) (left old new : Option (List ℕ))
+    → (given r minds task bytes).ending ≡ finished → LeavesTrace r minds task bytes answer left old new
     → (answer ≡ status.ReadFault → ⊥) → (answer ≡ status.WriteFault → ⊥) → (answer ≡ status.Done) ⊎ (answer ≡ status.NoMemory)
-complete-trace settings task bytes status.Done left old new ends leaves unread unwritten = inl refl
-complete-trace settings task bytes status.Usage left old new ends leaves unread unwritten = absurd leaves
-complete-trace settings task bytes (status.TraceFault line kind) left old new ends leaves unread unwritten = let no = leaves.1.0 in absurd (cc)
-complete-trace settings task bytes (status.SettingsFault kind) left old new ends leaves unread unwritten = absurd leaves
-complete-trace settings task bytes status.ReadFault left old new ends leaves unread unwritten = absurd (unread refl)
-complete-trace settings task bytes status.WriteFault left old new ends leaves unread unwritten = absurd (unwritten refl)
-complete-trace settings task bytes status.NoMemory left old new ends leaves unread unwritten = inr refl
-complete-trace settings task bytes status.TraceTooLong left old new ends leaves unread unwritten = let no = leaves.1.0 in absurd (cc)
+complete-trace r minds task bytes status.Done left old new ends leaves unread unwritten = inl refl
+complete-trace r minds task bytes status.Usage left old new ends leaves unread unwritten = absurd leaves
+complete-trace r minds task bytes (status.TraceFault line kind) left old new ends leaves unread unwritten = let no = leaves.1.0 in absurd (cc)
+complete-trace r minds task bytes (status.SettingsFault kind) left old new ends leaves unread unwritten = absurd leaves
+complete-trace r minds task bytes status.ReadFault left old new ends leaves unread unwritten = absurd (unread refl)
+complete-trace r minds task bytes status.WriteFault left old new ends leaves unread unwritten = absurd (unwritten refl)
+complete-trace r minds task bytes status.NoMemory left old new ends leaves unread unwritten = inr refl
+complete-trace r minds task bytes status.TraceTooLong left old new ends leaves unread unwritten = let no = leaves.1.0 in absurd (cc)
 
-pub complete : (task : Task) (told : Option (Result plain.Settings SettingsFault)) (trace : Option (List ℕ)) (answer : Status) (left old new : Option (List ℕ))
+complete-by : (task : Task) (minds : List Mind) (found : Result Setup SettingsFault) (trace : Option (List ℕ)) (answer : Status)
+    (left old new : Option (List ℕ))
+    → IsReadyBy task minds found trace → LeavesBy task minds found trace answer left old new
+    → (answer ≡ status.ReadFault → ⊥) → (answer ≡ status.WriteFault → ⊥)
+    → (answer ≡ status.Done) ⊎ (answer ≡ status.NoMemory)
+complete-by task minds (Err found) trace answer left old new ready leaves unread unwritten = absurd ready
+complete-by task minds (Ok r) None answer left old new ready leaves unread unwritten = absurd ready
+complete-by task minds (Ok r) (Some bytes) answer left old new ready leaves unread unwritten = complete-trace r minds task bytes answer left old new ready
+    leaves unread unwritten
+
+pub complete : (task : Task) (told : Option Prepared) (trace : Option (List ℕ)) (answer : Status) (left old new : Option (List ℕ))
     → IsReady task told trace
     → Leaves task told trace answer left old new → (answer ≡ status.ReadFault → ⊥) → (answer ≡ status.WriteFault → ⊥)
     → (answer ≡ status.Done) ⊎ (answer ≡ status.NoMemory)
 complete task None trace answer left old new ready leaves unread unwritten = absurd ready
-complete task (Some (Err found)) trace answer left old new ready leaves unread unwritten = absurd ready
-complete task (Some (Ok it)) None answer left old new ready leaves unread unwritten = absurd ready
-complete task (Some (Ok it)) (Some bytes) answer left old new ready leaves unread unwritten = complete-trace it task bytes answer left old new ready leaves
-    unread unwritten
+complete task (Some it) trace answer left old new ready leaves unread unwritten =
+    complete-by task it.minds it.found trace answer left old new ready leaves unread unwritten

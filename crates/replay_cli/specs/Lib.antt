@@ -4,4 +4,3 @@ pub mod Requests
 pub mod Lines
 pub mod Steps
 pub mod SetUps
-pub mod Appended

@@ -7,8 +7,9 @@ use Rattle.settings_reader.specs.Seen.{as_settings}
 use Rattle.replay_io.specs.Outside.{Asked, begun_name}
 use Rattle.replay_cli.specs.declared.status.Status.{Status}
 use Rattle.replay_cli.specs.declared.status.Status.TheVariants as status
-use Rattle.edit_model.specs.State.{empty_state}
-use Rattle.edit_model.specs.Output.{Played, run_lines, check_lines}
+use Rattle.edit_model.specs.Machine.{Setup}
+use Rattle.edit_model.specs.Minds.{Mind}
+use Rattle.edit_model.specs.Output.{Played, first_session, run_lines, check_lines}
 use Rattle.replay_cli.specs.declared.requests.Task.{Task}
 use Rattle.replay_cli.specs.declared.requests.Task.TheVariants.{Play, Check}
 use Rattle.replay_cli.specs.Lines.{lines_in}
@@ -67,6 +68,6 @@ Settles (Err status.NoMemory) found = Unit {0}
 Settles (Err status.TraceTooLong) found = ⊥
 
 -- what the lines of a trace give under a task, or those of its front where more was cut off
-abbrev pub given_lines : plain.Settings → Task → Bool → List ℕ → Played
-given_lines settings Play is_cut bytes = run_lines settings (close_of is_cut bytes) 1 empty_state (lines_in is_cut bytes)
-given_lines settings Check is_cut bytes = check_lines (close_check is_cut bytes) 1 0 (lines_in is_cut bytes)
+abbrev pub given_lines : Setup → List Mind → Task → Bool → List ℕ → Played
+given_lines r minds Play is_cut bytes = run_lines r (close_of is_cut bytes) 1 (first_session minds) (lines_in is_cut bytes)
+given_lines r minds Check is_cut bytes = check_lines minds (close_check minds is_cut bytes) 1 0 (lines_in is_cut bytes)

@@ -1,30 +1,31 @@
 -- One line of a run.
-use Rattle.std.specs.Prelude.{ℕ, ◌≡◌, ◌+◌, ◌++◌, Bool, true, false, List, ◌∷◌, take, Option, Result, Ok, Err}
+use Rattle.std.specs.Prelude.{ℕ, ◌≡◌, ◌+◌, ◌++◌, Bool, true, false, List, [], ◌∷◌, take, Option, Some, None, Result, Ok, Err}
 use Rattle.std.specs.List.{concat}
-use Rattle.edit_model.specs.Settings.{Settings}
-use Rattle.edit_model.specs.State.{State}
-use Rattle.edit_model.specs.Output.{Played, run_lines, check_lines, ended, overrun, checked, overrun_check}
+use Rattle.edit_model.specs.declared.items.Item.{Item}
+use Rattle.edit_model.specs.Machine.{Setup, Scene, Task, Reaches, at, run_item}
+use Rattle.edit_model.specs.Minds.{Mind}
+use Rattle.edit_model.specs.Output.{Played, Session, scene_of, session_of, run_lines, check_lines, ended, overrun, checked, overrun_check}
 use Rattle.edit_model.specs.Lines.{open_line}
 use Rattle.replay_io.specs.Outside.{with_more}
 use Rattle.replay_cli.specs.declared.player.LineOutcome.{LineOutcome}
 use Rattle.replay_cli.specs.declared.player.LineOutcome.TheVariants.{Next, Stop}
 use Rattle.replay_cli.specs.declared.status.Status.{Status}
 use Rattle.replay_cli.specs.declared.status.Status.TheVariants as status
-use Rattle.replay_cli.specs.Runs.{Writes}
+use Rattle.replay_cli.specs.Runs.{Writes, Keeps}
 
 -- what stands behind the lines of a trace, or of the front of one that was cut off
-abbrev pub close_of : Bool → List ℕ → ℕ → State → Played
+abbrev pub close_of : Bool → List ℕ → ℕ → Session → Played
 close_of true trace = overrun (open_line trace)
 close_of false trace = ended
 
--- the same where the lines are read alone
-abbrev pub close_check : Bool → List ℕ → ℕ → ℕ → Played
-close_check true trace = overrun_check (open_line trace)
-close_check false trace = checked
+-- the same where the lines are read and not run
+abbrev pub close_check : List Mind → Bool → List ℕ → ℕ → ℕ → Played
+close_check minds true trace = overrun_check minds (open_line trace)
+close_check minds false trace = checked minds
 
 -- the bytes of several commands in front
 abbrev pub behind_all : List (List ℕ) → Played → Played
-behind_all pieces played = record { commands = pieces ++ played.commands; last = played.last; ending = played.ending }
+behind_all pieces played = record { commands = pieces ++ played.commands; last = played.last; ending = played.ending; minds = played.minds }
 
 -- these pieces were written, and the lines that are left give the rest of the whole run
 pub record Reached (whole left : Played) (old now : Option (List ℕ)) : Type 0 where
@@ -33,14 +34,26 @@ pub record Reached (whole left : Played) (old now : Option (List ℕ)) : Type 0 
   pub written : now ≡ with_more old (concat pieces)
 
 -- whatever lines follow a line, and whatever stands behind them: the run goes on behind it, or has ended there
-abbrev pub LineGives : Settings → ℕ → State → List ℕ → State → LineOutcome → Option (List ℕ) → Option (List ℕ) → Type 0
-LineGives settings number state line after Next old new = (close : ℕ → State → Played) (lines : List (List ℕ)) →
-    Reached (run_lines settings close number state (line ∷ lines)) (run_lines settings close (number + 1) after lines) old new
-LineGives settings number state line after (Stop answer) old new = (close : ℕ → State → Played) (lines : List (List ℕ)) →
-    Writes (run_lines settings close number state (line ∷ lines)) answer old new
+abbrev pub LineGives : Setup → ℕ → Session → List ℕ → Session → LineOutcome → Option (List ℕ) → Option (List ℕ) → Type 0
+LineGives r number session line after Next old new = (close : ℕ → Session → Played) (lines : List (List ℕ)) →
+    Reached (run_lines r close number session (line ∷ lines)) (run_lines r close (number + 1) after lines) old new
+LineGives r number session line after (Stop answer) old new = (close : ℕ → Session → Played) (lines : List (List ℕ)) →
+    Writes (run_lines r close number session (line ∷ lines)) answer old new × Keeps (run_lines r close number session (line ∷ lines)) answer after.minds
 
--- a command's bytes were written, and the text is the one behind it, or the run has ended with a prefix of them
-abbrev pub CommandGives : List ℕ → State → State → LineOutcome → Option (List ℕ) → Option (List ℕ) → Type 0
+-- what stands then is what stood at some step of an item's run
+pub record StoodWithin (r : Setup) (it : Item) (old new : Session) : Type 0 where
+  pub scene : Scene
+  pub is : new ≡ session_of scene
+  pub agenda : List Task
+  pub through : Reaches r (at (scene_of old) (run_item it ∷ [])) (at scene agenda)
+
+-- the same of a command, by the item that it asks for; without one nothing changes
+abbrev pub StoodBy : Setup → Option Item → Session → Session → Type 0
+StoodBy r None old new = new ≡ old
+StoodBy r (Some it) old new = StoodWithin r it old new
+
+-- a command's bytes were written, and what stands is what stands behind it, or the run has ended with a prefix of them
+abbrev pub CommandGives : List ℕ → Session → Session → LineOutcome → Option (List ℕ) → Option (List ℕ) → Type 0
 CommandGives bytes behind after Next old new = (after ≡ behind) × (new ≡ with_more old bytes)
 CommandGives bytes behind after (Stop status.Done) old new = ⊥
 CommandGives bytes behind after (Stop status.Usage) old new = ⊥
@@ -51,9 +64,9 @@ CommandGives bytes behind after (Stop status.WriteFault) old new = (count : ℕ)
 CommandGives bytes behind after (Stop status.NoMemory) old new = new ≡ old
 CommandGives bytes behind after (Stop status.TraceTooLong) old new = ⊥
 
--- a line that is read alone holds so many commands, whatever lines follow it, or ends the reading, with nothing written
+-- a line that is read and not run holds so many commands, whatever lines follow it, or ends the reading, with nothing written
 abbrev pub CheckGives : ℕ → List ℕ → Result ℕ Status → Type 0
-CheckGives number line (Ok more) = (close : ℕ → ℕ → Played) (count : ℕ) (lines : List (List ℕ)) →
-    check_lines close number count (line ∷ lines) ≡ check_lines close (number + 1) (count + more) lines
-CheckGives number line (Err answer) = (close : ℕ → ℕ → Played) (count : ℕ) (lines : List (List ℕ)) (known : Option (List ℕ)) →
-    Writes (check_lines close number count (line ∷ lines)) answer known known
+CheckGives number line (Ok more) = (minds : List Mind) (close : ℕ → ℕ → Played) (count : ℕ) (lines : List (List ℕ)) →
+    check_lines minds close number count (line ∷ lines) ≡ check_lines minds close (number + 1) (count + more) lines
+CheckGives number line (Err answer) = (minds : List Mind) (close : ℕ → ℕ → Played) (count : ℕ) (lines : List (List ℕ)) (known : Option (List ℕ)) →
+    Writes (check_lines minds close number count (line ∷ lines)) answer known known × Keeps (check_lines minds close number count (line ∷ lines)) answer minds

@@ -1,27 +1,32 @@
 //! The lines of a trace, read and not run.
 
-ghost use Rattle.std.specs.Prelude.{ℕ, ◌≡◌, ◌≢◌, ◌≤◌, true, false, length, IfOk};
+ghost use Rattle.std.specs.Prelude.{ℕ, ◌≡◌, ◌≢◌, ◌≤◌, true, false, List, length, IfOk};
 ghost use Rattle.edit_base.specs.declared.bounds.TheConstants.Limits.{TRACE_BYTES};
+ghost use Rattle.edit_model.specs.Minds.{Mind};
 ghost use Rattle.edit_model.specs.Output.{check_lines, checked};
 ghost use Rattle.replay_io.specs.Outside.{Rose};
 ghost use Rattle.replay_cli.specs.Lines.{lines_in};
-ghost use Rattle.replay_cli.specs.Runs.{Writes};
+ghost use Rattle.replay_cli.specs.Runs.{Writes, Keeps};
 ghost use Rattle.replay_cli.specs.Steps.{CheckGives, close_check};
 
 use crate::lines::{TraceLine, next_line, read_line};
 use crate::player::stop_at;
-use crate::printing::print_checked;
 use crate::status::Status;
 use edit_base::NoMemory;
+use edit_model::Reply;
 use replay_io::{Sink, write_all_of};
+use reply_text::print_reply;
 use std::alloc::Global;
 
 /// Reads the lines of a trace, or those of its first bytes where more was cut off, and writes how many commands there
-/// are.
+/// are. No watcher is told of anything, so it speaks of any minds that a shelf may have.
 pub fn check_trace<K: Sink>(alloc: Global, trace: &[u8], is_cut: bool, sink: &mut K) -> Status
     requires { length trace.now ≤ TRACE_BYTES }
-    ensures writes { Writes (check_lines (close_check is_cut trace.now) 1 0 (lines_in is_cut trace.now)) result
+    ensures writes { (minds : List Mind) →
+        Writes (check_lines minds (close_check minds is_cut trace.now) 1 0 (lines_in is_cut trace.now)) result
         (K.written sink.old) (K.written sink.new) }
+    ensures keeps { (minds : List Mind) →
+        Keeps (check_lines minds (close_check minds is_cut trace.now) 1 0 (lines_in is_cut trace.now)) result minds }
     ensures whole { result ≡ Status.Done → is_cut ≡ false }
     ensures cut { result ≡ Status.TraceTooLong → is_cut ≡ true }
     ensures failed { result ≡ Status.WriteFault → Rose (K.faults sink.old) (K.faults sink.new) }
@@ -64,14 +69,16 @@ fn count_of(alloc: Global, number: u32, line: &[u8]) -> Result<u32, Status>
 
 // Writes how many commands there are.
 fn write_count<K: Sink>(alloc: Global, count: u32, sink: &mut K) -> Status
-    ensures writes { (number : ℕ) → Writes (checked number count) result (K.written sink.old) (K.written sink.new) }
+    ensures writes { (minds : List Mind) (number : ℕ) →
+        Writes (checked minds number count) result (K.written sink.old) (K.written sink.new) }
+    ensures keeps { (minds : List Mind) (number : ℕ) → Keeps (checked minds number count) result minds }
     ensures uncut { result ≢ Status.TraceTooLong }
     ensures failed { result ≡ Status.WriteFault → Rose (K.faults sink.old) (K.faults sink.new) }
     ensures quiet { result ≢ Status.WriteFault → K.faults sink.new ≡ K.faults sink.old }
     ensures counts { K.faults sink.old ≤ K.faults sink.new }
 {
     let mut out = Vec::new(alloc);
-    match print_checked(count, &mut out) {
+    match print_reply(&Reply::Checked(count), &mut out) {
         Err(NoMemory) => Status::NoMemory,
         Ok(()) => match write_all_of(sink, out.as_slice()) {
             Err(_) => Status::WriteFault,

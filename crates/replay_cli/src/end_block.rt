@@ -4,11 +4,11 @@
 ghost use Rattle.std.specs.Prelude.{◌≡◌, ◌++◌, OnOk, OnErr};
 ghost use Rattle.std.specs.List.{flat_map};
 ghost use Rattle.edit_model.specs.Printed.{span_line, end_block};
-ghost use Rattle.replay_cli.specs.Appended.{Extends};
+ghost use Rattle.reply_text.specs.Appended.{Extends};
 
-use crate::printing::{print_span, print_units};
 use edit_base::NoMemory;
 use replace_engine::SpannedText;
+use reply_text::{print_span, print_units};
 
 /// Appends the end block of a text. Without memory what was in `out` is still its prefix.
 pub fn print_end(text: &SpannedText, out: &mut Vec<u8>) -> Result<(), NoMemory>

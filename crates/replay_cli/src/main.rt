@@ -12,11 +12,11 @@ mod edits;
 mod end_block;
 mod lines;
 mod player;
-mod printing;
 mod queries;
 mod ranges;
 mod requests;
 mod run;
+mod shelf;
 mod status;
 
 pub use checker::check_trace;
@@ -24,10 +24,10 @@ pub use commands::{Buffers, run_command};
 pub use end_block::print_end;
 pub use lines::{TraceLine, is_blank_line, next_line, read_line};
 pub use player::{LineOutcome, play_lines, run_line, stop_at};
-pub use printing::{print_entry, print_header, print_units};
 use replay_io::{FileStore, OutSink};
 pub use requests::{Request, Task, request_of};
 pub use run::run;
+pub use shelf::run_on_blank_shelf;
 pub use status::Status;
 use std::env;
 use std::io::{self, ErrorKind};
@@ -67,7 +67,7 @@ fn unread_words(error: &io::Error) -> Status
 fn replay(rt: &HostRuntime, words: &[String]) -> Status {
     let mut files = FileStore::new(rt, rt.alloc());
     let mut output = OutSink::new(io::writer(rt));
-    run(rt.alloc(), words, &mut files, &mut output)
+    run_on_blank_shelf(rt.alloc(), words, &mut files, &mut output)
 }
 
 // The program's exit code.

@@ -1,12 +1,14 @@
-//! The lines of a trace, run one by one over a text.
+//! The lines of a trace, run one by one over a text with its watchers.
 
 ghost use Rattle.settings_reader.specs.Seen.{as_settings};
-ghost use Rattle.std.specs.Prelude.{◌≡◌, ◌≢◌, ◌≤◌, true, false, List, Option, length, ℕ};
-ghost use Rattle.edit_base.specs.declared.bounds.TheConstants.Limits.{TRACE_BYTES};
+ghost use Rattle.std.specs.Prelude.{◌≡◌, ◌≢◌, ◌≤◌, true, false, List, Option, length, map, ℕ};
+ghost use Rattle.edit_base.specs.declared.bounds.TheConstants.Limits.{DEPTH, TRACE_BYTES};
+ghost use Rattle.edit_model.specs.Minds.{Mind};
 ghost use Rattle.edit_model.specs.Reading.{IsFitting};
-ghost use Rattle.edit_model.specs.Output.{command_bytes, state_behind, run_lines, ended, stopped, cut_off, too_long};
+ghost use Rattle.edit_model.specs.Output.{setup, standing, command_bytes, session_behind, run_lines, ended, stopped, cut_off, too_long};
 ghost use Rattle.replay_io.specs.Outside.{Rose};
-ghost use Rattle.replay_cli.specs.Runs.{Writes};
+ghost use Rattle.watcher_rounds.specs.Rounds.{IsReady};
+ghost use Rattle.replay_cli.specs.Runs.{Writes, Keeps};
 ghost use Rattle.replay_cli.specs.Steps.{LineGives, CommandGives, close_of};
 ghost use Rattle.replay_cli.specs.Lines.{lines_in};
 
@@ -21,6 +23,7 @@ use replay_io::{Sink, write_all_of};
 use settings_reader::Settings;
 use std::alloc::Global;
 use std::sync::ledger::Ledger;
+use watcher_api::{Slots, Watcher};
 
 /// What became of a line.
 #[derive(Clone, Copy, Debug, PartialEq, Eq)]
@@ -31,21 +34,29 @@ pub enum LineOutcome {
     Stop(Status),
 }
 
-/// Runs the lines of a trace over a text under these settings, or those of its first bytes where more was cut off. The
-/// output of each command is written as soon as it is run, and the end block behind the last one.
+/// Runs the lines of a trace over a text under these settings, with the watchers of the shelf that stand in the slots,
+/// or those of its first bytes where more was cut off. The output of each command is written as soon as it is run, and
+/// the end block behind the last one.
 pub fn play_lines<K: Sink, L: Ledger>(
     alloc: Global,
     settings: &Settings,
+    slots: &Slots,
     trace: &[u8],
     is_cut: bool,
     text: &mut SpannedText,
+    shelf: &mut Vec<Box<dyn Watcher>>,
     sink: &mut K,
     steps: &mut Steps<L>,
 ) -> Status
-    requires { length trace.now ≤ TRACE_BYTES }
-    ensures writes { Writes (run_lines (as_settings settings.now) (close_of is_cut trace.now) 1 text.old.state
-        (lines_in is_cut trace.now)) result
+    requires within { length trace.now ≤ TRACE_BYTES }
+    requires depth { settings.now.depth ≤ DEPTH }
+    requires ready { IsReady slots.now.items text.old.state (map (λ b. mind b) shelf.old.items) 0 }
+    ensures writes { Writes (run_lines (setup (as_settings settings.now) slots.now.items) (close_of is_cut trace.now) 1
+        (standing text.old.state (map (λ b. mind b) shelf.old.items)) (lines_in is_cut trace.now)) result
         (K.written sink.old) (K.written sink.new) }
+    ensures keeps { Keeps (run_lines (setup (as_settings settings.now) slots.now.items) (close_of is_cut trace.now) 1
+        (standing text.old.state (map (λ b. mind b) shelf.old.items)) (lines_in is_cut trace.now)) result
+        (map (λ b. mind b) shelf.new.items) }
     ensures whole { result ≡ Status.Done → is_cut ≡ false }
     ensures cut { result ≡ Status.TraceTooLong → is_cut ≡ true }
     ensures failed { result ≡ Status.WriteFault → Rose (K.faults sink.old) (K.faults sink.new) }
@@ -55,6 +66,7 @@ pub fn play_lines<K: Sink, L: Ledger>(
     let mut buffers = Buffers {
         out: Vec::new(alloc),
         rows: Vec::new(alloc),
+        log: Vec::new(alloc),
     };
     let mut rest = trace;
     let mut number = 1u32;
@@ -62,9 +74,11 @@ pub fn play_lines<K: Sink, L: Ledger>(
         match run_line(
             alloc,
             settings,
+            slots,
             number,
             line,
             text,
+            shelf,
             &mut buffers,
             sink,
             steps,
@@ -84,7 +98,9 @@ pub fn play_lines<K: Sink, L: Ledger>(
 
 /// How a trace over its limit ends behind its lines: these bytes stand behind the last of them.
 pub fn stop_at(number: u32, tail: &[u8]) -> Status
-    ensures stops { (known : Option (List ℕ)) → Writes (stopped (cut_off tail.now too_long number)) result known known }
+    ensures stops { (minds : List Mind) (known : Option (List ℕ))
+        → Writes (stopped (cut_off tail.now too_long number) minds) result known known }
+    ensures keeps { (minds : List Mind) → Keeps (stopped (cut_off tail.now too_long number) minds) result minds }
     ensures undone { result ≢ Status.Done }
     ensures unfailed { result ≢ Status.WriteFault }
     ensures remembered { result ≢ Status.NoMemory }
@@ -103,15 +119,21 @@ pub fn stop_at(number: u32, tail: &[u8]) -> Status
 pub fn run_line<K: Sink, L: Ledger>(
     alloc: Global,
     settings: &Settings,
+    slots: &Slots,
     number: u32,
     line: &[u8],
     text: &mut SpannedText,
+    shelf: &mut Vec<Box<dyn Watcher>>,
     buffers: &mut Buffers,
     sink: &mut K,
     steps: &mut Steps<L>,
 ) -> LineOutcome
-    ensures gives { LineGives (as_settings settings.now) number text.old.state line.now text.new.state result
-        (K.written sink.old) (K.written sink.new) }
+    requires depth { settings.now.depth ≤ DEPTH }
+    requires ready { IsReady slots.now.items text.old.state (map (λ b. mind b) shelf.old.items) 0 }
+    ensures gives { LineGives (setup (as_settings settings.now) slots.now.items) number
+        (standing text.old.state (map (λ b. mind b) shelf.old.items)) line.now
+        (standing text.new.state (map (λ b. mind b) shelf.new.items)) result (K.written sink.old) (K.written sink.new) }
+    ensures ready { IsReady slots.now.items text.new.state (map (λ b. mind b) shelf.new.items) 0 }
     ensures undone { result ≢ LineOutcome.Stop Status.Done }
     ensures uncut { result ≢ LineOutcome.Stop Status.TraceTooLong }
     ensures failed { result ≡ LineOutcome.Stop Status.WriteFault → Rose (K.faults sink.old) (K.faults sink.new) }
@@ -124,7 +146,7 @@ pub fn run_line<K: Sink, L: Ledger>(
         Ok(TraceLine::Faulty(kind)) => LineOutcome::Stop(Status::TraceFault { line: number, kind }),
         Ok(TraceLine::Command(command)) => {
             write_command(
-                alloc, settings, number, &command, text, buffers, sink, steps,
+                alloc, settings, slots, number, command, text, shelf, buffers, sink, steps,
             )
         }
     }
@@ -134,17 +156,24 @@ pub fn run_line<K: Sink, L: Ledger>(
 fn write_command<K: Sink, L: Ledger>(
     alloc: Global,
     settings: &Settings,
+    slots: &Slots,
     number: u32,
-    command: &Command,
+    command: Command,
     text: &mut SpannedText,
+    shelf: &mut Vec<Box<dyn Watcher>>,
     buffers: &mut Buffers,
     sink: &mut K,
     steps: &mut Steps<L>,
 ) -> LineOutcome
-    requires { IsFitting command.now }
-    ensures gives { CommandGives (command_bytes (as_settings settings.now) number text.old.state command.now)
-        (state_behind (as_settings settings.now) text.old.state command.now)
-        text.new.state result (K.written sink.old) (K.written sink.new) }
+    requires fitting { IsFitting command }
+    requires depth { settings.now.depth ≤ DEPTH }
+    requires ready { IsReady slots.now.items text.old.state (map (λ b. mind b) shelf.old.items) 0 }
+    ensures gives { CommandGives (command_bytes (setup (as_settings settings.now) slots.now.items) number
+        (standing text.old.state (map (λ b. mind b) shelf.old.items)) command)
+        (session_behind (setup (as_settings settings.now) slots.now.items)
+        (standing text.old.state (map (λ b. mind b) shelf.old.items)) command)
+        (standing text.new.state (map (λ b. mind b) shelf.new.items)) result (K.written sink.old) (K.written sink.new) }
+    ensures ready { IsReady slots.now.items text.new.state (map (λ b. mind b) shelf.new.items) 0 }
     ensures undone { result ≢ LineOutcome.Stop Status.Done }
     ensures uncut { result ≢ LineOutcome.Stop Status.TraceTooLong }
     ensures failed { result ≡ LineOutcome.Stop Status.WriteFault → Rose (K.faults sink.old) (K.faults sink.new) }
@@ -152,7 +181,9 @@ fn write_command<K: Sink, L: Ledger>(
     ensures counts { K.faults sink.old ≤ K.faults sink.new }
 {
     buffers.out.clear();
-    match run_command(alloc, settings, number, command, text, buffers, steps) {
+    match run_command(
+        alloc, settings, slots, number, command, text, shelf, buffers, steps,
+    ) {
         Err(NoMemory) => LineOutcome::Stop(Status::NoMemory),
         Ok(()) => match write_all_of(sink, buffers.out.as_slice()) {
             Err(_) => LineOutcome::Stop(Status::WriteFault),
@@ -163,8 +194,10 @@ fn write_command<K: Sink, L: Ledger>(
 
 // Writes the end block.
 fn finish<K: Sink>(text: &SpannedText, out: &mut Vec<u8>, sink: &mut K) -> Status
-    ensures writes { (number : ℕ) → Writes (ended number text.now.state) result (K.written sink.old)
-        (K.written sink.new) }
+    ensures writes { (number : ℕ) (minds : List Mind) → Writes (ended number (standing text.now.state minds)) result
+        (K.written sink.old) (K.written sink.new) }
+    ensures keeps { (number : ℕ) (minds : List Mind)
+        → Keeps (ended number (standing text.now.state minds)) result minds }
     ensures uncut { result ≢ Status.TraceTooLong }
     ensures failed { result ≡ Status.WriteFault → Rose (K.faults sink.old) (K.faults sink.new) }
     ensures quiet { result ≢ Status.WriteFault → K.faults sink.new ≡ K.faults sink.old }

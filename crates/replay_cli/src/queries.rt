@@ -11,14 +11,14 @@ ghost use Rattle.edit_model.specs.Rows.{spans_in};
 ghost use Rattle.edit_model.specs.Log.{range_logged};
 ghost use Rattle.edit_model.specs.Printed.{span_line, found_lines, edge_line, reply_line};
 ghost use Rattle.edit_model.specs.Output.{answer_lines};
-ghost use Rattle.replay_cli.specs.Appended.{Extends};
+ghost use Rattle.reply_text.specs.Appended.{Extends};
 
 use crate::commands::Buffers;
-use crate::printing::{print_reply, print_span};
 use crate::ranges::{judge_range, place_of};
 use edit_base::{NoMemory, Pick, SpanRow, Steps, Verdict};
 use edit_model::{Logged, Reply};
 use replace_engine::SpannedText;
+use reply_text::{print_reply, print_span};
 use std::sync::ledger::Ledger;
 
 /// Prints the spans over a range, or the refusal of the range.

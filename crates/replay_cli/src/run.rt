@@ -1,13 +1,15 @@
-//! The top call: from words, a store and a sink to a status.
+//! The top call: from words, a store, a sink and a shelf to a status.
 
 ghost use Rattle.settings_reader.specs.Seen.{as_settings};
-ghost use Rattle.std.specs.Prelude.{◌≡◌, ◌≢◌, ◌≤◌, ◌<◌, ◌⊎◌, ◌↔◌, map, true, false, length, List, ℕ, Option, Some, None, IfSome, string_bytes};
+ghost use Rattle.std.specs.Prelude.{◌≡◌, ◌≢◌, ◌≤◌, ◌<◌, ◌⊎◌, ◌↔◌, map, true, false, length, List, ℕ, Option, Some, None, IfOk, IfSome, string_bytes};
 ghost use Rattle.std.specs.Option.{option_map};
-ghost use Rattle.edit_base.specs.declared.bounds.TheConstants.Limits.{TRACE_BYTES};
+ghost use Rattle.edit_base.specs.declared.bounds.TheConstants.Limits.{TRACE_BYTES, DEPTH};
 ghost use Rattle.replay_io.specs.Outside.{Rose};
-ghost use Rattle.replay_cli.specs.Runs.{requested_by, AsksFor, Leaves, LeavesFor, LeavesTrace, IsComplete, IsSet, told_settings, Writes};
+ghost use Rattle.watcher_rounds.specs.Rounds.{AreOnShelf};
+ghost use Rattle.replay_cli.specs.Runs.{requested_by, given, AsksFor, Leaves, LeavesFor, LeavesTrace, Keeps, KeepsFor, KeepsMinds, IsComplete, IsSet, told_settings, told_setup, Writes};
 ghost use Rattle.replay_cli.specs.SetUps.{SetsUp, SetUpAsks, TraceAsks, Settles, given_lines};
-ghost use Rattle.edit_model.specs.Settings.{read_settings as read_settings_of};
+ghost use Rattle.edit_model.specs.Output.{setup};
+ghost use Rattle.edit_model.specs.Settings.{FitsLimits, read_settings as read_settings_of};
 
 use crate::checker::check_trace;
 use crate::player::play_lines;
@@ -17,27 +19,35 @@ use edit_base::{Limits, NoMemory, Steps};
 use edit_model::SettingsFault;
 use replace_engine::SpannedText;
 use replay_io::{ReadEnd, ReadFault, Sink, Store, read_all};
-use settings_reader::{Settings, built_in, read_settings};
+use settings_reader::{Settings, built_in, load_shelf, read_settings};
 use std::alloc::Global;
 use std::marker::Brand;
 use std::sync::ledger::{Blank, Ledger};
+use watcher_api::{Slots, Watcher};
 
-/// Runs the program on its words, its own name not among them. Both tasks read the settings and the trace of these
-/// names from the store. `play SETTINGS TRACE` runs the trace over an empty text under the settings and writes what
-/// each command prints, and the text and its spans at the end. `check SETTINGS TRACE` runs no command and writes how
+/// Runs the program on its words, its own name not among them. Both tasks read the settings of the first of these names
+/// from the store, load the watchers that they ask for on the shelf, and read the trace of the second. A watcher that
+/// isn't blank can't be loaded. `play SETTINGS TRACE` runs the trace over an empty text under the settings and writes
+/// what each command prints, and the text and its spans at the end; loaded watchers whose spans a change of the text
+/// meets are told of it, and the edits that they answer are done. `check SETTINGS TRACE` runs no command and writes how
 /// many there are.
 pub fn run<S: Store, K: Sink>(
     alloc: Global,
     words: &[String],
     store: &mut S,
     sink: &mut K,
+    shelf: &mut Vec<Box<dyn Watcher>>,
 ) -> Status
     // The words alone decide this status, and then nothing is asked for and nothing written.
     ensures usage { (result ≡ Status.Usage) ↔ (requested_by (map string_bytes words.now) ≡ None) }
 
     // Where the store tells the settings and the trace: what was written, and what is left of the trace.
-    ensures leaves { LeavesFor (requested_by (map string_bytes words.now)) (S.stands store.old) result
-        (S.left store.new) (K.written sink.old) (K.written sink.new) }
+    ensures leaves { LeavesFor (requested_by (map string_bytes words.now)) (S.stands store.old)
+        (map (λ b. mind b) shelf.old.items) result (S.left store.new) (K.written sink.old) (K.written sink.new) }
+
+    // The minds of the shelf then. Where the words ask for nothing they are as before.
+    ensures minds { KeepsFor (requested_by (map string_bytes words.now)) (S.stands store.old)
+        (map (λ b. mind b) shelf.old.items) result (map (λ b. mind b) shelf.new.items) }
 
     // The causes of faults, that no fault is swallowed, and the names asked for.
     ensures read_fault { result ≡ Status.ReadFault → Rose (S.faults store.old) (S.faults store.new) }
@@ -48,8 +58,10 @@ pub fn run<S: Store, K: Sink>(
     ensures stands { (name : List ℕ) → S.stands store.new name ≡ S.stands store.old name }
     ensures asks { AsksFor (requested_by (map string_bytes words.now)) result (S.asked store.old) (S.asked store.new) }
 
-    // Where the settings have a reading, every line is a command and no device fails, a run is done or wants memory.
+    // Where the settings have a reading and their watchers are loaded, every line is a command and no device fails, a
+    // run is done or wants memory.
     ensures complete { IsComplete (requested_by (map string_bytes words.now)) (S.stands store.old)
+        (map (λ b. mind b) shelf.old.items)
         → ¬ Rose (S.faults store.old) (S.faults store.new) → ¬ Rose (K.faults sink.old) (K.faults sink.new)
         → (result ≡ Status.Done) ⊎ (result ≡ Status.NoMemory) }
 {
@@ -62,11 +74,12 @@ pub fn run<S: Store, K: Sink>(
             request.trace,
             store,
             sink,
+            shelf,
         ),
     }
 }
 
-// Reads the settings, and then runs or checks the trace.
+// Reads the settings and loads the shelf, and then runs or checks the trace.
 fn run_request<S: Store, K: Sink>(
     alloc: Global,
     task: Task,
@@ -74,9 +87,14 @@ fn run_request<S: Store, K: Sink>(
     trace: &str,
     store: &mut S,
     sink: &mut K,
+    shelf: &mut Vec<Box<dyn Watcher>>,
 ) -> Status
-    ensures leaves { Leaves task (told_settings (option_map (λ name. name.now) settings.entry) (S.stands store.old))
+    ensures leaves { Leaves task (told_setup (option_map (λ name. name.now) settings.entry) (S.stands store.old)
+        (map (λ b. mind b) shelf.old.items))
         (S.stands store.old trace.now) result (S.left store.new) (K.written sink.old) (K.written sink.new) }
+    ensures minds { KeepsMinds task (told_setup (option_map (λ name. name.now) settings.entry) (S.stands store.old)
+        (map (λ b. mind b) shelf.old.items))
+        (S.stands store.old trace.now) result (map (λ b. mind b) shelf.new.items) }
     ensures read_fault { result ≡ Status.ReadFault → Rose (S.faults store.old) (S.faults store.new) }
     ensures quiet_store { result ≢ Status.ReadFault → S.faults store.new ≡ S.faults store.old }
     ensures unread { result ≡ Status.ReadFault → K.written sink.new ≡ K.written sink.old }
@@ -92,7 +110,10 @@ fn run_request<S: Store, K: Sink>(
 {
     match set_up(alloc, settings, store) {
         Err(status) => status,
-        Ok(settings) => run_trace(alloc, &settings, task, trace, store, sink),
+        Ok(settings) => match load_shelf(&settings, shelf) {
+            Err(fault) => Status::SettingsFault(fault),
+            Ok(slots) => run_trace(alloc, &settings, &slots, task, trace, store, sink, shelf),
+        },
     }
 }
 
@@ -103,6 +124,7 @@ fn set_up<S: Store>(
     store: &mut S,
 ) -> Result<Settings, Status>
     ensures told { SetsUp result (told_settings (option_map (λ name. name.now) settings.entry) (S.stands store.old)) }
+    ensures fits { IfOk result (λ settings. FitsLimits (as_settings settings)) }
     ensures asks { SetUpAsks (option_map (λ name. name.now) settings.entry) result (S.asked store.old)
         (S.asked store.new) }
     ensures read_fault { result ≡ Err Status.ReadFault → Rose (S.faults store.old) (S.faults store.new) }
@@ -126,6 +148,7 @@ fn read_settings_file<S: Store>(
     store: &mut S,
 ) -> Result<Settings, Status>
     ensures told { SetsUp result (told_settings (Some name.now) (S.stands store.old)) }
+    ensures fits { IfOk result (λ settings. FitsLimits (as_settings settings)) }
     ensures asks { SetUpAsks (Some name.now) result (S.asked store.old) (S.asked store.new) }
     ensures read_fault { result ≡ Err Status.ReadFault → Rose (S.faults store.old) (S.faults store.new) }
     ensures quiet_store { result ≢ Err Status.ReadFault → S.faults store.new ≡ S.faults store.old }
@@ -143,7 +166,8 @@ fn read_settings_file<S: Store>(
 
 // The settings that these bytes say, or their fault.
 fn settings_of(alloc: Global, bytes: &[u8]) -> Result<Settings, Status>
-    ensures { Settles result (read_settings_of bytes.now) }
+    ensures settles { Settles result (read_settings_of bytes.now) }
+    ensures fits { IfOk result (λ settings. FitsLimits (as_settings settings)) }
 {
     match read_settings(alloc, bytes) {
         Ok(settings) => Ok(settings),
@@ -156,14 +180,21 @@ fn settings_of(alloc: Global, bytes: &[u8]) -> Result<Settings, Status>
 fn run_trace<S: Store, K: Sink>(
     alloc: Global,
     settings: &Settings,
+    slots: &Slots,
     task: Task,
     trace: &str,
     store: &mut S,
     sink: &mut K,
+    shelf: &mut Vec<Box<dyn Watcher>>,
 ) -> Status
+    requires depth { settings.now.depth ≤ DEPTH }
+    requires on_shelf { AreOnShelf slots.now.items (map (λ b. mind b) shelf.old.items) }
     ensures leaves { IfSome (S.stands store.old trace.now)
-        (λ bytes. LeavesTrace (as_settings settings.now) task bytes result (S.left store.new) (K.written sink.old)
-        (K.written sink.new)) }
+        (λ bytes. LeavesTrace (setup (as_settings settings.now) slots.now.items) (map (λ b. mind b) shelf.old.items)
+        task bytes result (S.left store.new) (K.written sink.old) (K.written sink.new)) }
+    ensures minds { IfSome (S.stands store.old trace.now)
+        (λ bytes. Keeps (given (setup (as_settings settings.now) slots.now.items) (map (λ b. mind b) shelf.old.items)
+        task bytes) result (map (λ b. mind b) shelf.new.items)) }
     ensures set { IsSet result }
     ensures read_fault { result ≡ Status.ReadFault → Rose (S.faults store.old) (S.faults store.new) }
     ensures quiet_store { result ≢ Status.ReadFault → S.faults store.new ≡ S.faults store.old }
@@ -176,8 +207,30 @@ fn run_trace<S: Store, K: Sink>(
 {
     let mut bytes = Vec::new(alloc);
     match read_all(store, trace, Limits::TRACE_BYTES, &mut bytes) {
-        Ok(ReadEnd::Whole) => run_bytes(alloc, settings, task, bytes.as_slice(), false, sink),
-        Ok(ReadEnd::Over) => run_bytes(alloc, settings, task, bytes.as_slice(), true, sink),
+        Ok(ReadEnd::Whole) => {
+            run_bytes(
+                alloc,
+                settings,
+                slots,
+                task,
+                bytes.as_slice(),
+                false,
+                sink,
+                shelf,
+            )
+        }
+        Ok(ReadEnd::Over) => {
+            run_bytes(
+                alloc,
+                settings,
+                slots,
+                task,
+                bytes.as_slice(),
+                true,
+                sink,
+                shelf,
+            )
+        }
         Err(ReadFault::Failed) => Status::ReadFault,
         Err(ReadFault::NoMemory) => Status::NoMemory,
     }
@@ -187,14 +240,20 @@ fn run_trace<S: Store, K: Sink>(
 fn run_bytes<K: Sink>(
     alloc: Global,
     settings: &Settings,
+    slots: &Slots,
     task: Task,
     bytes: &[u8],
     is_cut: bool,
     sink: &mut K,
+    shelf: &mut Vec<Box<dyn Watcher>>,
 ) -> Status
-    requires { length bytes.now ≤ TRACE_BYTES }
-    ensures writes { Writes (given_lines (as_settings settings.now) task is_cut bytes.now) result (K.written sink.old)
-        (K.written sink.new) }
+    requires within { length bytes.now ≤ TRACE_BYTES }
+    requires depth { settings.now.depth ≤ DEPTH }
+    requires on_shelf { AreOnShelf slots.now.items (map (λ b. mind b) shelf.old.items) }
+    ensures writes { Writes (given_lines (setup (as_settings settings.now) slots.now.items)
+        (map (λ b. mind b) shelf.old.items) task is_cut bytes.now) result (K.written sink.old) (K.written sink.new) }
+    ensures keeps { Keeps (given_lines (setup (as_settings settings.now) slots.now.items)
+        (map (λ b. mind b) shelf.old.items) task is_cut bytes.now) result (map (λ b. mind b) shelf.new.items) }
     ensures whole { result ≡ Status.Done → is_cut ≡ false }
     ensures cut { result ≡ Status.TraceTooLong → is_cut ≡ true }
     ensures failed { result ≡ Status.WriteFault → Rose (K.faults sink.old) (K.faults sink.new) }
@@ -202,7 +261,8 @@ fn run_bytes<K: Sink>(
 {
     match task {
         Task::Play => {
-            play_counted::<K, Brand>(alloc, settings, bytes, is_cut, sink, Blank::new(1))
+            let blank = Blank::new(1);
+            play_counted::<K, Brand>(alloc, settings, slots, bytes, is_cut, sink, shelf, blank)
         }
         Task::Check => check_trace(alloc, bytes, is_cut, sink),
     }
@@ -212,17 +272,24 @@ fn run_bytes<K: Sink>(
 fn play_counted<K: Sink, L: Ledger>(
     alloc: Global,
     settings: &Settings,
+    slots: &Slots,
     bytes: &[u8],
     is_cut: bool,
     sink: &mut K,
+    shelf: &mut Vec<Box<dyn Watcher>>,
     blank: Blank,
 ) -> Status
     requires within { length bytes.now ≤ TRACE_BYTES }
+    requires depth { settings.now.depth ≤ DEPTH }
+    requires on_shelf { AreOnShelf slots.now.items (map (λ b. mind b) shelf.old.items) }
     requires name { blank.name ≡ L.name }
     requires parts { blank.parts ≡ L.parts }
     requires some { 0 < blank.parts }
-    ensures writes { Writes (given_lines (as_settings settings.now) Task.Play is_cut bytes.now) result
-        (K.written sink.old) (K.written sink.new) }
+    ensures writes { Writes (given_lines (setup (as_settings settings.now) slots.now.items)
+        (map (λ b. mind b) shelf.old.items) Task.Play is_cut bytes.now)
+        result (K.written sink.old) (K.written sink.new) }
+    ensures keeps { Keeps (given_lines (setup (as_settings settings.now) slots.now.items)
+        (map (λ b. mind b) shelf.old.items) Task.Play is_cut bytes.now) result (map (λ b. mind b) shelf.new.items) }
     ensures whole { result ≡ Status.Done → is_cut ≡ false }
     ensures cut { result ≡ Status.TraceTooLong → is_cut ≡ true }
     ensures failed { result ≡ Status.WriteFault → Rose (K.faults sink.old) (K.faults sink.new) }
@@ -231,6 +298,10 @@ fn play_counted<K: Sink, L: Ledger>(
     let mut steps = Steps::<L>::start(blank);
     match SpannedText::new(alloc) {
         Err(NoMemory) => Status::NoMemory,
-        Ok(mut text) => { play_lines(alloc, settings, bytes, is_cut, &mut text, sink, &mut steps) }
+        Ok(mut text) => {
+            play_lines(
+                alloc, settings, slots, bytes, is_cut, &mut text, shelf, sink, &mut steps,
+            )
+        }
     }
 }

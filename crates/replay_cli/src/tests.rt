@@ -1,6 +1,6 @@
 //! Runs of the program over stores and sinks in memory.
 
-use crate::run::run;
+use crate::shelf::run_on_blank_shelf;
 use crate::status::Status;
 use replay_io::{MemorySink, MemoryStore, StoredFile};
 use std::alloc::Global;
@@ -8,9 +8,9 @@ use std::test::Fail;
 
 mod faults;
 mod lines;
-mod printing;
 mod sizes;
 mod traces;
+mod watchers;
 
 // Three commands, and what they print.
 const HELLO: &str = r#"{"op":"replace","start":0,"end":0,"text":"hello"}
@@ -59,7 +59,7 @@ fn ran_over(
     let writes = Vec::from_slice(alloc, failing_writes)?;
     let mut store = MemoryStore::new(files, 7, reads);
     let mut sink = MemorySink::new(alloc, 4_000_000, 4, writes)?;
-    let status = run(alloc, words.as_slice(), &mut store, &mut sink);
+    let status = run_on_blank_shelf(alloc, words.as_slice(), &mut store, &mut sink);
     Ok((status, Vec::from_slice(alloc, sink.written())?))
 }
 

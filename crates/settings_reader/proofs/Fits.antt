@@ -8,12 +8,13 @@ use Rattle.std.specs.List.{All, AllByRecursion}
 use Rattle.std.proofs.lemmas.Bool.Decides.{nat_tests}
 use Rattle.std.proofs.lemmas.List.Elements.{All-from_recursion}
 use Rattle.toml.specs.Data.{Data, Items, no_items, item, Members, get_member, as_integer, as_array, as_table}
-use Rattle.edit_base.specs.declared.bounds.TheConstants.Limits.{TEXT, FILTERS, DEPTH, DEPTH_DEFAULT, RANGES, WIDTH}
+use Rattle.edit_base.specs.declared.bounds.TheConstants.Limits.{TEXT, WATCHERS, FILTERS, DEPTH, DEPTH_DEFAULT, RANGES, WIDTH}
 use Rattle.edit_model.specs.declared.faults.SettingsFault.{SettingsFault}
 use Rattle.edit_model.specs.declared.faults.SettingsFault.TheVariants as fault
 use Rattle.edit_model.specs.declared.filters.Filter.{Filter}
 use Rattle.edit_model.specs.declared.filters.Filter.TheVariants.{AsciiUpper, NoNewline}
 use Rattle.edit_model.specs.declared.filters.UnitRange.{UnitRange}
+use Rattle.edit_model.specs.declared.settings.WatcherSetting.{WatcherSetting}
 use Rattle.edit_model.specs.State.{place}
 use Rattle.settings_reader.specs.declared.settings.Settings.{Settings}
 use Rattle.settings_reader.specs.Seen.{as_settings}
@@ -21,6 +22,8 @@ use Rattle.edit_model.specs.Faults.{GivesSeen}
 use Rattle.edit_model.specs.Settings.{FitsFilter, FitsLimits, having, each_of, within, number_of, item_count, few_items, array_of, range_of}
 use Rattle.edit_model.specs.Settings.{ranges_of, text_of, value_at, only, has_foreign, length_filter, allow_filter, filter_by_kind}
 use Rattle.edit_model.specs.Settings.{filter_of, are_tables, tables_of, filter_in, filters_of, width_default, settings_of, known_keys}
+use Rattle.edit_model.specs.Settings.{numbers_most, greatest_number, FitsWatcher, kind_named, numbers_of, watcher_of_kind, watcher_by_kind}
+use Rattle.edit_model.specs.Settings.{watcher_of, watcher_in, watchers_of}
 
 module _ {X Y : Type 0} (P : Y → Type 0) where
   -- what was read first is of this kind, and so what is read of it is of that kind
@@ -134,6 +137,13 @@ filter_fits value =
     behind_any FitsFilter (value_at (codes "kind") table) _ (λ named.
     behind_any FitsFilter (text_of named) (filter_by_kind table) (fits_by_kind table)))
 
+-- few tables, each of them read as what fits
+few_tables : (greatest : ℕ) (value : Data) → IfOk (tables_of greatest value) (AreFew greatest)
+few_tables greatest value =
+    behind_any (AreFew greatest) (ok_or (as_array value) fault.Value) _ (λ items.
+    either (AreFew greatest) (not (are_tables items)) (Err fault.Value) (few_items greatest items) (λ others. tt)
+    (λ tables. few_kept greatest items))
+
 -- few filters, each within its limits
 record AreFitting (filters : List Filter) : Type 0 where
   pub few : length filters ≤ FILTERS
@@ -141,12 +151,53 @@ record AreFitting (filters : List Filter) : Type 0 where
 
 filters_fit : (value : Data) → IfOk (filters_of value) AreFitting
 filters_fit value =
-    behind_kind AreFitting (AreFew FILTERS) (tables_of FILTERS value) (each_of filter_in)
-    (behind_any (AreFew FILTERS) (ok_or (as_array value) fault.Value) _ (λ items.
-    either (AreFew FILTERS) (not (are_tables items)) (Err fault.Value) (few_items FILTERS items) (λ others. tt)
-    (λ tables. few_kept FILTERS items))) (λ items few.
-    weaken AreFitting (AreMany FitsFilter (item_count items)) (each_of filter_in items) (each_many FitsFilter filter_in filter_fits items) (λ filters many.
+    behind_kind AreFitting (AreFew FILTERS) (tables_of FILTERS value) (each_of filter_in) (few_tables FILTERS value) (λ items few.
+    weaken AreFitting (AreMany FitsFilter (item_count items)) (each_of filter_in items)
+    (each_many FitsFilter filter_in filter_fits items) (λ filters many.
     record { few = omega (arith, many.long); each = All-from_recursion FitsFilter filters many.each }))
+
+-- ---- watchers
+
+-- so few numbers as a watcher may be loaded with
+abbrev FewNumbers : List ℕ → Type 0
+FewNumbers numbers = length numbers ≤ numbers_most
+
+any_number : (found : Result ℕ SettingsFault) → IfOk found IsAny
+any_number (Ok number) = tt
+any_number (Err it) = tt
+
+numbers_few : (value : Data) → IfOk (numbers_of value) FewNumbers
+numbers_few value =
+    let read = number_of 0 greatest_number in
+    behind_kind FewNumbers (AreFew numbers_most) (array_of numbers_most value) (each_of read)
+    (behind_any (AreFew numbers_most) (ok_or (as_array value) fault.Value) (few_items numbers_most) (few_kept numbers_most)) (λ items few.
+    weaken FewNumbers (AreMany IsAny (item_count items)) (each_of read items) (each_many IsAny read (λ number. any_number (read number)) items) (λ numbers many.
+    omega (arith, many.long)))
+
+watcher_of_kind_fits : (table : Members) (kind : ℕ) → IfOk (watcher_of_kind table kind) FitsWatcher
+watcher_of_kind_fits table kind =
+    behind_any FitsWatcher (value_at (codes "numbers") table) _ (λ value.
+    behind_kind FitsWatcher FewNumbers (numbers_of value) _ (numbers_few value) (λ numbers few. few))
+
+watcher_fits : (value : Data) → IfOk (watcher_in value) FitsWatcher
+watcher_fits value =
+    behind_any FitsWatcher (ok_or (as_table value) fault.Value) watcher_of (λ table.
+    behind_any FitsWatcher (value_at (codes "kind") table) _ (λ named.
+    behind_any FitsWatcher (text_of named) _ (λ name.
+    behind_any FitsWatcher (kind_named name) (watcher_by_kind table) (λ kind.
+    fits_only FitsWatcher (codes "kind" ∷ codes "numbers" ∷ []) table _ (watcher_of_kind_fits table kind)))))
+
+-- few watchers, each with few numbers
+record AreAskedFor (watchers : List WatcherSetting) : Type 0 where
+  pub few : length watchers ≤ WATCHERS
+  pub each : All FitsWatcher watchers
+
+watchers_fit : (value : Data) → IfOk (watchers_of value) AreAskedFor
+watchers_fit value =
+    behind_kind AreAskedFor (AreFew WATCHERS) (tables_of WATCHERS value) (each_of watcher_in) (few_tables WATCHERS value) (λ items few.
+    weaken AreAskedFor (AreMany FitsWatcher (item_count items)) (each_of watcher_in items)
+    (each_many FitsWatcher watcher_in watcher_fits items) (λ watchers many.
+    record { few = omega (arith, many.long); each = All-from_recursion FitsWatcher watchers many.each }))
 
 -- ---- the document
 
@@ -161,7 +212,19 @@ settings_fit table =
     (record { least = omega arith; greatest = omega arith }) (number_lies 1 WIDTH)) (λ width wide.
     behind_kind FitsLimits AreFitting _ _
     (at_key_or AreFitting [] filters_of (get_member (codes "filter") table) (record { few = omega arith; each = search rules }) filters_fit) (λ filters fit.
-    record { depth = deep.greatest; width_least = wide.least; width = wide.greatest; filters = fit.few; each_filter = fit.each }))))
+    behind_kind FitsLimits AreAskedFor _ _
+    (at_key_or AreAskedFor [] watchers_of (get_member (codes "watcher") table) (record { few = omega arith; each = search rules }) watchers_fit)
+    (λ watchers asked.
+    record {
+      depth = deep.greatest;
+      width_least = wide.least;
+      width = wide.greatest;
+      filters = fit.few;
+      each_filter = fit.each;
+      watchers = asked.few;
+      each_watcher = asked.each;
+    }
+    )))))
 
 pub given_fits : (table : Members) (result : Result Settings SettingsFault) → GivesSeen fault.NoMemory as_settings (settings_of table) result
     → IfOk result (λ settings. FitsLimits (as_settings settings))

@@ -4,7 +4,7 @@ ghost use Rattle.std.specs.Prelude.{◌≡◌, ok_or};
 ghost use Rattle.toml.specs.Data.{as_array};
 ghost use Rattle.toml.specs.View.{view, items_view};
 ghost use Rattle.edit_model.specs.Faults.{Gives, GivesSeen};
-ghost use Rattle.edit_model.specs.Settings.{are_tables as are_tables_by, few_items, each_of};
+ghost use Rattle.edit_model.specs.Settings.{are_tables as are_tables_by, few_items, each_of, tables_of as tables_by};
 
 use edit_base::Items;
 use edit_model::SettingsFault;
@@ -72,8 +72,23 @@ pub(crate) fn few_of(values: &[Value], greatest: u32) -> Result<&[Value], Settin
     Ok(values)
 }
 
-/// Whether every value is a table.
-pub(crate) fn are_tables(values: &[Value]) -> bool
+/// The values of an array of at most so many tables.
+///
+/// # Errors
+/// `Value` where the value is no array, or one of its values is no table; then `Limit` where there are more.
+pub(crate) fn tables_of(value: &Value, greatest: u32) -> Result<&[Value], SettingsFault>
+    ensures { GivesSeen SettingsFault.NoMemory (λ tables. items_view tables.now)
+        (tables_by greatest (view value.now)) result }
+{
+    let values = values_of(value)?;
+    if !are_tables(values) {
+        return Err(SettingsFault::Value);
+    }
+    few_of(values, greatest)
+}
+
+// Whether every value is a table.
+fn are_tables(values: &[Value]) -> bool
     ensures { result ≡ are_tables_by (items_view values.now) }
 {
     values.iter().all(Value::is_table)

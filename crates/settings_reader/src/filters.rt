@@ -1,15 +1,14 @@
 //! The filters of a settings file.
 
 ghost use Rattle.std.specs.Prelude.{◌≡◌, [], ◌∷◌, codes, Ok};
-ghost use Rattle.toml.specs.View.{view, items_view, table_view};
-ghost use Rattle.edit_base.specs.declared.bounds.TheConstants.Limits.{FILTERS};
-ghost use Rattle.edit_model.specs.Faults.{Gives, GivesSeen};
-ghost use Rattle.edit_model.specs.Settings.{only as only_keys, filters_of as filters_by, tables_of as tables_by};
+ghost use Rattle.toml.specs.View.{view, table_view};
+ghost use Rattle.edit_model.specs.Faults.{Gives};
+ghost use Rattle.edit_model.specs.Settings.{only as only_keys, filters_of as filters_by};
 ghost use Rattle.edit_model.specs.Settings.{filter_of as filter_by_table};
 ghost use Rattle.edit_model.specs.Settings.{filter_by_kind as filter_of_kind, length_filter as length_by};
 ghost use Rattle.edit_model.specs.Settings.{allow_filter as allow_by};
 
-use crate::arrays::{FromValue, are_tables, each_of, few_of, values_of};
+use crate::arrays::{FromValue, each_of, tables_of};
 use crate::keys::{number_of, only, value_at};
 use crate::ranges::ranges_of;
 use edit_base::{Items, Limits};
@@ -25,19 +24,8 @@ use toml::{Table, Value};
 pub(crate) fn filters_of(alloc: Global, value: &Value) -> Result<Items<Filter>, SettingsFault>
     ensures { Gives SettingsFault.NoMemory (filters_by (view value.now)) result }
 {
-    let tables = tables_of(value)?;
+    let tables = tables_of(value, Limits::FILTERS)?;
     each_of(alloc, tables)
-}
-
-fn tables_of(value: &Value) -> Result<&[Value], SettingsFault>
-    ensures { GivesSeen SettingsFault.NoMemory (λ tables. items_view tables.now)
-        (tables_by FILTERS (view value.now)) result }
-{
-    let values = values_of(value)?;
-    if !are_tables(values) {
-        return Err(SettingsFault::Value);
-    }
-    few_of(values, Limits::FILTERS)
 }
 
 impl FromValue for Filter {

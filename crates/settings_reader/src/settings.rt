@@ -1,7 +1,7 @@
 //! What a run is set to.
 
 use edit_base::Items;
-use edit_model::Filter;
+use edit_model::{Filter, WatcherSetting};
 
 /// The settings of a run.
 #[derive(Debug, Drop)]
@@ -12,4 +12,6 @@ pub struct Settings {
     pub width: u32,
     /// The filters of incoming text, in the order in which it goes through them; at most 8.
     pub filters: Items<Filter>,
+    /// The watchers that are asked for, one a slot, in the order of the slots; at most 8, each with at most 8 numbers.
+    pub watchers: Items<WatcherSetting>,
 }

@@ -1,7 +1,10 @@
-use super::{Settings, SettingsFault, built_in, read_settings};
-use edit_model::Filter;
+use super::{Settings, SettingsFault, Slots, built_in, load_shelf, read_settings};
+use edit_base::Edit;
+use edit_model::{Filter, TextEvent};
 use std::alloc::{AllocError, Global};
 use std::test::Fail;
+use watcher_api::{Answer, Watcher};
+use watcher_kit::{Echo, Note, Pair};
 
 // What a file is read as, in short words: a fault by its name.
 fn shown(alloc: Global, read: &Result<Settings, SettingsFault>) -> Result<String, AllocError> {
@@ -39,7 +42,7 @@ fn documents_have_settings_or_a_first_fault(rt: HostRuntime) -> Result<(), Fail>
         ("colour = 1", "key"),
         ("Depth = 1", "key"),
         ("[face]", "key"),
-        ("watcher = []", "key"),
+        ("watchers = []", "key"),
         ("depth = \"x\"\ncolour = 1", "key"),
         ("width = \"x\"\ndepth = 9", "limit"),
         ("width = 0\ndepth = \"x\"", "value"),
@@ -48,6 +51,11 @@ fn documents_have_settings_or_a_first_fault(rt: HostRuntime) -> Result<(), Fail>
         ("filter = [{}]\nwidth = \"x\"", "value"),
         ("filter = 1\ncolour = 1", "key"),
         ("filter = [", "toml"),
+        ("watcher = []\ndepth = 3", "3 400 []"),
+        ("watcher = [{}]\nfilter = 1", "value"),
+        ("watcher = 1\nfilter = [{}]", "key"),
+        ("watcher = 1\nwidth = 0", "limit"),
+        ("watcher = 1\ncolour = 1", "key"),
     ];
     for (document, wanted) in cases {
         let read = shown(rt.alloc(), &read_settings(rt.alloc(), document.as_bytes()))?;
@@ -173,6 +181,204 @@ fn filters_and_ranges_are_counted(rt: HostRuntime) -> Result<(), Fail> {
         let read = counted(rt.alloc(), &read_settings(rt.alloc(), document.as_bytes()))?;
         assert_eq!(rt; read.as_str(), wanted, "{count} {last}");
     }
+    Ok(())
+}
+
+// The watchers that a file asks for: the kind and the numbers of each.
+fn asked(alloc: Global, read: &Result<Settings, SettingsFault>) -> Result<String, AllocError> {
+    match read {
+        Ok(settings) => {
+            let mut text = String::new(alloc);
+            for watcher in settings.watchers.as_slice() {
+                let numbers = watcher.numbers.as_slice();
+                let watcher = format!(in alloc; "{} {numbers:?};", watcher.kind)?;
+                text.push_str(&watcher)?;
+            }
+            Ok(text)
+        }
+        Err(fault) => format!(in alloc; "{fault}"),
+    }
+}
+
+#[test]
+fn watchers_are_read_or_have_a_first_fault(rt: HostRuntime) -> Result<(), Fail> {
+    let cases = [
+        ("", ""),
+        ("watcher = []", ""),
+        ("watcher = [{kind = 'note', numbers = []}]", "0 [];"),
+        (
+            "watcher = [{kind = 'pair', numbers = [40, 41]}, {numbers = [], kind = 'echo'}]\nwidth = 7",
+            "1 [40, 41];7 [];",
+        ),
+        (
+            "[[watcher]]\nkind = 'note'\nnumbers = [0, 4294967295, 2, 3, 4, 5, 6, 7]\n",
+            "0 [0, 4294967295, 2, 3, 4, 5, 6, 7];",
+        ),
+        ("watcher = 'note'", "value"),
+        ("[watcher]\nkind = 'note'\nnumbers = []", "value"),
+        ("watcher = [['note']]", "value"),
+        ("watcher = [{}, 1]", "value"),
+        ("watcher = [{}]", "key"),
+        ("watcher = [{numbers = 'x'}]", "key"),
+        ("watcher = [{kind = 0, numbers = []}]", "value"),
+        ("watcher = [{kind = 'Note', numbers = []}]", "value"),
+        ("watcher = [{kind = 'swap', numbers = [1, 2]}]", "value"),
+        ("watcher = [{kind = 'limit', numbers = [1]}]", "value"),
+        ("watcher = [{kind = 'squeeze', numbers = []}]", "value"),
+        ("watcher = [{kind = 'paint', numbers = [3, 1]}]", "value"),
+        ("watcher = [{kind = 'follow', numbers = [3, 4]}]", "value"),
+        ("watcher = [{kind = '', colour = 1}]", "value"),
+        ("watcher = [{kind = 'note', numbers = [], max = 1}]", "key"),
+        ("watcher = [{kind = 'note', numbers = 'x', max = 1}]", "key"),
+        ("watcher = [{kind = 'pair'}]", "key"),
+        ("watcher = [{kind = 'pair', numbers = 40}]", "value"),
+        ("watcher = [{kind = 'pair', numbers = {}}]", "value"),
+        ("watcher = [{kind = 'pair', numbers = [40.0]}]", "value"),
+        ("watcher = [{kind = 'pair', numbers = [-1, 'x']}]", "limit"),
+        ("watcher = [{kind = 'pair', numbers = ['x', -1]}]", "value"),
+        (
+            "watcher = [{kind = 'pair', numbers = [4294967296]}]",
+            "limit",
+        ),
+        (
+            "watcher = [{kind = 'echo', numbers = [0, 1, 2, 3, 4, 5, 6, 'x']}]",
+            "value",
+        ),
+        (
+            "watcher = [{kind = 'echo', numbers = [0, 1, 2, 3, 4, 5, 6, 7, 'x']}]",
+            "limit",
+        ),
+        (
+            "watcher = [{kind = 'note', numbers = [-1]}, {kind = 1}]",
+            "limit",
+        ),
+        (
+            "watcher = [{kind = 'note', numbers = []}, {}, {kind = 1}]",
+            "key",
+        ),
+    ];
+    for (document, wanted) in cases {
+        let read = asked(rt.alloc(), &read_settings(rt.alloc(), document.as_bytes()))?;
+        assert_eq!(rt; read.as_str(), wanted, "{document}");
+    }
+    Ok(())
+}
+
+#[test]
+fn watchers_are_counted(rt: HostRuntime) -> Result<(), Fail> {
+    let eight = "7 [];7 [];7 [];7 [];7 [];7 [];7 [];7 [];";
+    let cases = [
+        (8, "", eight),
+        (9, "", "limit"),
+        (7, "{}", "key"),
+        (8, "{}", "limit"),
+        (8, "1", "value"),
+    ];
+    for (count, last, wanted) in cases {
+        let many = "{kind = 'echo', numbers = []},".repeat(rt.alloc(), count)?;
+        let document = format!(in rt.alloc(); "watcher = [{many}{last}]")?;
+        let read = asked(rt.alloc(), &read_settings(rt.alloc(), document.as_bytes()))?;
+        assert_eq!(rt; read.as_str(), wanted, "{count} {last}");
+    }
+    Ok(())
+}
+
+// Loads a shelf as a file says: the slots, or the fault.
+fn load(
+    alloc: Global,
+    document: &str,
+    shelf: &mut Vec<Box<dyn Watcher>>,
+) -> Result<Slots, SettingsFault> {
+    let settings = read_settings(alloc, document.as_bytes())?;
+    load_shelf(&settings, shelf)
+}
+
+// A plus for each watcher that was loaded, and a minus for each that is blank; loads those that are blank.
+fn loaded(alloc: Global, shelf: &mut Vec<Box<dyn Watcher>>) -> Result<String, AllocError> {
+    let mut signs = String::new(alloc);
+    for watcher in shelf {
+        let is_blank = watcher.load(&[]) || watcher.load(&[1, 2]);
+        signs.push(if is_blank { '-' } else { '+' })?;
+    }
+    Ok(signs)
+}
+
+#[test]
+fn each_entry_takes_the_first_free_watcher_of_its_kind(rt: HostRuntime) -> Result<(), Fail> {
+    let note = "{kind = 'note', numbers = []},";
+    let pair = "{kind = 'pair', numbers = [40, 41]},";
+    let echo = "{kind = 'echo', numbers = []},";
+    let alike = "{kind = 'pair', numbers = [40, 40]},";
+    let many = "{kind = 'note', numbers = [1]},";
+    let cases = [
+        (["", "", "", ""], "[]", "----"),
+        ([pair, "", "", ""], "[1]", "-+--"),
+        ([pair, pair, "", ""], "[1, 3]", "-+-+"),
+        ([echo, pair, note, pair], "[2, 1, 0, 3]", "++++"),
+        // None of the kind is left.
+        ([pair, pair, pair, echo], "watcher", "-+-+"),
+        ([echo, echo, note, ""], "watcher", "--+-"),
+        // The numbers don't fit, and no other watcher is tried with them.
+        ([alike, "", "", ""], "watcher", "----"),
+        ([note, alike, echo, ""], "watcher", "+---"),
+        ([pair, alike, "", ""], "watcher", "-+--"),
+        ([echo, many, pair, ""], "watcher", "--+-"),
+    ];
+    for ([first, second, third, fourth], wanted, signs) in cases {
+        let alloc = rt.alloc();
+        let mut shelf: Vec<Box<dyn Watcher>> = Vec::new(alloc);
+        shelf.push(Box::new(alloc, Note::blank())?)?;
+        shelf.push(Box::new(alloc, Pair::blank())?)?;
+        shelf.push(Box::new(alloc, Echo::blank())?)?;
+        shelf.push(Box::new(alloc, Pair::blank())?)?;
+        let document = format!(in alloc; "watcher = [{first}{second}{third}{fourth}]")?;
+        let slots = match load(alloc, &document, &mut shelf) {
+            Ok(slots) => format!(in alloc; "{:?}", slots.as_slice())?,
+            Err(fault) => format!(in alloc; "{fault}")?,
+        };
+        assert_eq!(rt; slots.as_str(), wanted, "{document}");
+        let standing = loaded(alloc, &mut shelf)?;
+        assert_eq!(rt; standing.as_str(), signs, "{document}");
+    }
+    Ok(())
+}
+
+// Whether the answer is this unit alone, behind the first one of the text.
+fn closes(answer: &Answer, closer: u16) -> bool {
+    match answer.as_slice() {
+        [Edit::Replace { start, end, text }] => {
+            *start == 1 && *end == 1 && text.as_slice() == [closer].as_slice()
+        }
+        _ => false,
+    }
+}
+
+#[test]
+fn each_watcher_is_loaded_with_its_own_numbers(rt: HostRuntime) -> Result<(), Fail> {
+    let alloc = rt.alloc();
+    let document =
+        "watcher = [{kind = 'pair', numbers = [40, 41]}, {kind = 'pair', numbers = [91, 93]}]";
+    let mut shelf: Vec<Box<dyn Watcher>> = Vec::new(alloc);
+    shelf.push(Box::new(alloc, Pair::blank())?)?;
+    shelf.push(Box::new(alloc, Pair::blank())?)?;
+    assert!(rt; load(alloc, document, &mut shelf).is_ok());
+    let event = TextEvent {
+        depth: 0,
+        start: 0,
+        before: 0,
+        after: 1,
+    };
+    for (watcher, (opener, closer)) in shelf.iter_mut().zip([(40, 41), (91, 93)]) {
+        let answer = watcher.after(&event, &[opener], &[]);
+        assert!(rt; closes(&answer, closer));
+    }
+    // A watcher that isn't blank can't be loaded.
+    assert!(rt;
+        matches!(
+            load(alloc, document, &mut shelf),
+            Err(SettingsFault::Watcher)
+        )
+    );
     Ok(())
 }
 

@@ -1,7 +1,7 @@
 //! Faults of words, lines, settings and devices, and what they are called.
 
 use super::{HELLO, files, ran, ran_over, texts};
-use crate::run::run;
+use crate::shelf::run_on_blank_shelf;
 use crate::status::Status;
 use edit_model::{SettingsFault, TraceFault};
 use replay_io::{SteadySink, SteadyStore};
@@ -173,7 +173,7 @@ fn words_and_steady_devices(rt: HostRuntime) -> Result<(), Fail> {
         let files = files(rt.alloc(), b"depth = 0\n", HELLO.as_bytes())?;
         let mut store = SteadyStore::new(files, 100);
         let mut sink = SteadySink::new();
-        let status = run(rt.alloc(), words.as_slice(), &mut store, &mut sink);
+        let status = run_on_blank_shelf(rt.alloc(), words.as_slice(), &mut store, &mut sink);
         assert_eq!(rt; status, want, "at {list:?}");
     }
     Ok(())

@@ -2,7 +2,7 @@
 //! none may end in want of memory.
 
 use super::{HELLO, HELLO_OUTPUT, has_part, played, ran, stored, texts};
-use crate::run::run;
+use crate::shelf::run_on_blank_shelf;
 use crate::status::Status;
 use edit_base::Limits;
 use edit_model::{SettingsFault, TraceFault};
@@ -100,7 +100,7 @@ fn overrun(alloc: Global, task: &str, lines: u32) -> Result<(Status, Vec<u8>), F
     let words = texts(alloc, &[task, "-", "T"])?;
     let mut store = SteadyStore::new(files, 1_000_000);
     let mut sink = MemorySink::new(alloc, 4_000, 100, Vec::new(alloc))?;
-    let status = run(alloc, words.as_slice(), &mut store, &mut sink);
+    let status = run_on_blank_shelf(alloc, words.as_slice(), &mut store, &mut sink);
     Ok((status, Vec::from_slice(alloc, sink.written())?))
 }
 

@@ -4,7 +4,7 @@ use Rattle.replay_cli.proofs.run.read_settings_file.Goals as goal
 
 pub returns-in-Ok-Whole-clause-asks : goal.returns-in-Ok-Whole-clause-asks
 returns-in-Ok-Whole-clause-asks g c =
-    asks-settled c.args.name.now c.settings_of.result _ _ _ c.settings_of.ensures c.in-Ok-Whole.ensures.asks
+    asks-settled c.args.name.now c.settings_of.result _ _ _ c.settings_of.ensures.settles c.in-Ok-Whole.ensures.asks
 
 pub returns-in-Ok-Over-clause-told : goal.returns-in-Ok-Over-clause-told
 returns-in-Ok-Over-clause-told g c =

@@ -1,0 +1,139 @@
+//! The lines of what is logged of a command: its header, its edits, and the callbacks of watchers.
+#![tactic(auto, using(crate::proofs::Appending::appending))]
+
+ghost use Rattle.std.specs.Prelude.{◌≡◌, ◌++◌, OnOk, OnErr, codes, decimal};
+ghost use Rattle.std.specs.Fmt.{signed_decimal};
+ghost use Rattle.edit_model.specs.Printed.{spaced, line_end, header_line, entry_line, event_line};
+ghost use Rattle.reply_text.specs.Appended.{Extends};
+
+use crate::verdicts::push_numbered_ending;
+use crate::words::{push, push_number, push_signed, push_word};
+use edit_base::NoMemory;
+use edit_model::{LogEntry, Logged, TextEvent};
+
+/// Appends the first line of the command on a trace line: the line's number, and the operation's name. Without memory
+/// a part of the line may stand in `out`.
+pub fn print_header(number: u32, op: &str, out: &mut Vec<u8>) -> Result<(), NoMemory>
+    ensures ok { OnOk result (out.new.items ≡ out.old.items ++ header_line number op.now) }
+    ensures err { OnErr result (Extends out.old.items out.new.items) }
+{
+    push(">", out)?;
+    push_number(number, out)?;
+    push_word(op, out)?;
+    push("\n", out)
+}
+
+/// Appends the line of one entry of the log. Without memory a part of the line may stand in `out`.
+pub fn print_entry(entry: &LogEntry, out: &mut Vec<u8>) -> Result<(), NoMemory>
+    ensures ok { OnOk result (out.new.items ≡ out.old.items ++ entry_line entry.now) }
+    ensures err { OnErr result (Extends out.old.items out.new.items) }
+{
+    match entry {
+        LogEntry::Replace {
+            depth,
+            start,
+            end,
+            units,
+            logged,
+        } => push_replace(*depth, *start, *end, *units, logged, out),
+        LogEntry::Set {
+            depth,
+            id,
+            start,
+            end,
+            flags,
+            logged,
+        } => push_set(*depth, *id, *start, *end, *flags, logged, out),
+        LogEntry::Remove { depth, id, logged } => push_remove(*depth, *id, logged, out),
+        LogEntry::Before { slot, event } => push_event("before", *slot, event, out),
+        LogEntry::Changed { slot, event } => push_event("changed", *slot, event, out),
+        LogEntry::After { slot, event } => push_event("after", *slot, event, out),
+    }
+}
+
+fn push_replace(
+    depth: u32,
+    start: i64,
+    end: i64,
+    units: u32,
+    logged: &Logged,
+    out: &mut Vec<u8>,
+) -> Result<(), NoMemory>
+    ensures ok { OnOk result (out.new.items
+        ≡ out.old.items ++ entry_line (LogEntry.Replace depth start end units logged.now)) }
+    ensures err { OnErr result (Extends out.old.items out.new.items) }
+{
+    push_edit(depth, "replace", out)?;
+    push_places(start, end, out)?;
+    push_numbered_ending(units, logged, out)
+}
+
+fn push_set(
+    depth: u32,
+    id: u32,
+    start: i64,
+    end: i64,
+    flags: u32,
+    logged: &Logged,
+    out: &mut Vec<u8>,
+) -> Result<(), NoMemory>
+    ensures ok { OnOk result (out.new.items
+        ≡ out.old.items ++ entry_line (LogEntry.Set depth id start end flags logged.now)) }
+    ensures err { OnErr result (Extends out.old.items out.new.items) }
+{
+    push_edit(depth, "set", out)?;
+    push_number(id, out)?;
+    push_places(start, end, out)?;
+    push_numbered_ending(flags, logged, out)
+}
+
+fn push_remove(depth: u32, id: u32, logged: &Logged, out: &mut Vec<u8>) -> Result<(), NoMemory>
+    ensures ok { OnOk result (out.new.items
+        ≡ out.old.items ++ entry_line (LogEntry.Remove depth id logged.now)) }
+    ensures err { OnErr result (Extends out.old.items out.new.items) }
+{
+    push_edit(depth, "remove", out)?;
+    push_numbered_ending(id, logged, out)
+}
+
+fn push_edit(depth: u32, name: &str, out: &mut Vec<u8>) -> Result<(), NoMemory>
+    ensures ok { OnOk result (out.new.items
+        ≡ out.old.items ++ (codes "edit" ++ spaced (decimal depth) ++ spaced name.now)) }
+    ensures err { OnErr result (Extends out.old.items out.new.items) }
+{
+    push("edit", out)?;
+    push_number(depth, out)?;
+    push_word(name, out)
+}
+
+fn push_places(start: i64, end: i64, out: &mut Vec<u8>) -> Result<(), NoMemory>
+    ensures ok { OnOk result (out.new.items
+        ≡ out.old.items ++ (spaced (signed_decimal start) ++ spaced (signed_decimal end))) }
+    ensures err { OnErr result (Extends out.old.items out.new.items) }
+{
+    push_signed(start, out)?;
+    push_signed(end, out)
+}
+
+// A callback of a replacement.
+fn push_event(name: &str, slot: u8, event: &TextEvent, out: &mut Vec<u8>) -> Result<(), NoMemory>
+    ensures ok { OnOk result (out.new.items ≡ out.old.items ++ event_line name.now slot event.now) }
+    ensures err { OnErr result (Extends out.old.items out.new.items) }
+{
+    push(name, out)?;
+    push_number(event.depth, out)?;
+    push_number(u32::from(slot), out)?;
+    push_counts(event, out)
+}
+
+// Where a replacement started, and how many units went and came.
+fn push_counts(event: &TextEvent, out: &mut Vec<u8>) -> Result<(), NoMemory>
+    ensures ok { OnOk result (out.new.items ≡ out.old.items ++ (spaced (decimal event.now.start)
+        ++ spaced (decimal event.now.before) ++ spaced (decimal event.now.after) ++ line_end)) }
+    ensures err { OnErr result (Extends out.old.items out.new.items) }
+{
+    push_number(event.start, out)?;
+    push_number(event.before, out)?;
+    push_number(event.after, out)?;
+    push("\n", out)
+}

@@ -1,0 +1,229 @@
+-- Each call leads on from where the one before it left off; each early end is a scene that the run comes through.
+use Rattle.std.proofs.Common.{◌≡◌, ◌∙◌, ◌+◌, ◌∷◌, [], drop, refl, sym}
+use Rattle.edit_model.specs.Changed.{on_done}
+use Rattle.edit_model.specs.Machine.{do_rest, tell_after, rest_of, events}
+use Rattle.watcher_rounds.specs.Rounds.{setup_of, stands}
+use Rattle.watcher_rounds.proofs.Runs.{passed_here, passed_told, passed_still, on_err, on_err_then, on_ok_then}
+use Rattle.watcher_rounds.proofs.Follows.{AreLaws, told_on, led_none, led_more, passed_more, led_change, passed_change, sets_off_done, led_set_off, passed_before, passed_at_change, passed_changed, passed_after, led_undone, led_barred, led_begun, passed_begun, led_stop, led_go_on, passed_rest, led_rest, led_from}
+use Rattle.watcher_rounds.proofs.rounds.+rounds.Goals as goal
+
+-- ---- ask_all
+
+pub ask_all-loop-slot-init : goal.ask_all-loop-slot-init
+ask_all-loop-slot-init g t c =
+    let laws : AreLaws g.F.Follower.takes = record { none = g.met.F.Follower.takes_none; both = g.met.F.Follower.takes_both } in
+    let a = c.args in
+    record {
+      led = led_none laws (setup_of a.round.now) [] (stands a.text.now.state (g.S.Shelf.minds a.shelf.now) a.log.now.items a.spent.now) a.follower.now;
+      ready = c.requires.ready;
+      followed = c.requires.followed;
+      layout_ground = refl;
+    }
+
+pub ask_all-returns-in_err-ask_one-clause-err : goal.ask_all-returns-in_err-ask_one-clause-err
+ask_all-returns-in_err-ask_one-clause-err g t c =
+    on_err c.from_residual.result
+    (passed_more (λ slot. tell_after slot c.args.event.now) c.args.slots.now c.loop-slot.slot-index 0 c.loop-slot-test.true c.loop-slot.invariant.led
+    c.in_err-ask_one.ensures.err)
+
+pub ask_all-loop-slot-preserved : goal.ask_all-loop-slot-preserved
+ask_all-loop-slot-preserved g t c =
+    let laws : AreLaws g.F.Follower.takes = record { none = g.met.F.Follower.takes_none; both = g.met.F.Follower.takes_both } in
+    record {
+      led = led_more laws (λ slot. tell_after slot c.args.event.now) c.args.slots.now c.loop-slot.slot-index 0 c.loop-slot-test.true c.loop-slot.invariant.led
+          c.in_ok-ask_one.ensures.ok;
+      ready = c.in_ok-ask_one.ensures.ready;
+      followed = c.in_ok-ask_one.ensures.followed;
+      layout_ground = c.in_ok-ask_one.ensures.layout_ground ∙ c.loop-slot.invariant.layout_ground;
+    }
+
+-- ---- ask_one
+
+pub ask_one-returns-in_err-answer-clause-err : goal.ask_one-returns-in_err-answer-clause-err
+ask_one-returns-in_err-answer-clause-err g t c =
+    let a = c.args in
+    on_err c.from_residual.result
+    (passed_still a.text.now.state (g.S.Shelf.minds a.shelf.now) _ a.log.now.items _ a.spent.now c.in_err-answer.ensures.err
+    (passed_here (setup_of a.round.now) (tell_after a.slot a.event.now ∷ [])
+    (stands a.text.now.state (g.S.Shelf.minds a.shelf.now) a.log.now.items a.spent.now)))
+
+pub ask_one-returns-clause-ok : goal.ask_one-returns-clause-ok
+ask_one-returns-clause-ok g t c = on_ok_then c.do_answer.result c.do_answer.ensures.ok (λ led. told_on (c.in_ok-answer.ensures.ok c.args.spent.now) led)
+
+pub ask_one-returns-clause-err : goal.ask_one-returns-clause-err
+ask_one-returns-clause-err g t c = on_err_then c.do_answer.result c.do_answer.ensures.err
+    (λ passed. passed_told (c.in_ok-answer.ensures.ok c.args.spent.now) passed)
+
+-- ---- do_answer
+
+pub do_answer-loop-edit-init : goal.do_answer-loop-edit-init
+do_answer-loop-edit-init g t c =
+    let laws : AreLaws g.F.Follower.takes = record { none = g.met.F.Follower.takes_none; both = g.met.F.Follower.takes_both } in
+    let a = c.args in
+    record {
+      led = led_none laws (setup_of a.round.now) (rest_of c.as_slice-edit-items.result.now a.depth)
+          (stands a.text.now.state (g.S.Shelf.minds a.shelf.now) a.log.now.items a.spent.now) a.follower.now;
+      ready = c.requires.ready;
+      followed = c.requires.followed;
+      layout_ground = refl;
+    }
+
+pub do_answer-returns-in_err-do_edit-clause-err : goal.do_answer-returns-in_err-do_edit-clause-err
+do_answer-returns-in_err-do_edit-clause-err g t c =
+    on_err c.from_residual.result
+    (passed_rest c.as_slice-edit-items.result.now c.args.answer.now.items c.loop-edit.edit-index c.edit-item.result c.args.depth
+    c.as_slice-edit-items.ensures.value c.loop-edit-test.true c.edit-item.is c.loop-edit.invariant.led c.in_err-do_edit.ensures.err)
+
+pub do_answer-returns-then-not-branch-clause-ok : goal.do_answer-returns-then-not-branch-clause-ok
+do_answer-returns-then-not-branch-clause-ok g t c =
+    let laws : AreLaws g.F.Follower.takes = record { none = g.met.F.Follower.takes_none; both = g.met.F.Follower.takes_both } in
+    let edits = c.as_slice-edit-items.result.now in
+    let i = c.loop-edit.edit-index in
+    led_from edits c.args.answer.now.items c.args.depth c.as_slice-edit-items.ensures.value
+    (led_rest laws edits i c.edit-item.result c.args.depth [] c.loop-edit-test.true c.edit-item.is c.loop-edit.invariant.led
+    (led_stop (rest_of (drop (i + 1) edits) c.args.depth) c.in_ok-do_edit.field-0 c.if-not-branch.true (c.in_ok-do_edit.ensures.ok (drop (i + 1) edits))))
+
+pub do_answer-loop-edit-preserved : goal.do_answer-loop-edit-preserved
+do_answer-loop-edit-preserved g t c =
+    let laws : AreLaws g.F.Follower.takes = record { none = g.met.F.Follower.takes_none; both = g.met.F.Follower.takes_both } in
+    let edits = c.as_slice-edit-items.result.now in
+    let i = c.loop-edit.edit-index in
+    record {
+      led = led_rest laws edits i c.edit-item.result c.args.depth (rest_of (drop (i + 1) edits) c.args.depth) c.loop-edit-test.true c.edit-item.is
+          c.loop-edit.invariant.led (led_go_on (rest_of (drop (i + 1) edits) c.args.depth) c.in_ok-do_edit.field-0 c.if-not-branch.false
+          (c.in_ok-do_edit.ensures.ok (drop (i + 1) edits)));
+      ready = c.in_ok-do_edit.ensures.ready;
+      followed = c.in_ok-do_edit.ensures.followed;
+      layout_ground = c.in_ok-do_edit.ensures.layout_ground ∙ c.loop-edit.invariant.layout_ground;
+    }
+
+-- ---- do_edit
+
+pub do_edit-returns-in_err-step-clause-err : goal.do_edit-returns-in_err-step-clause-err
+do_edit-returns-in_err-step-clause-err g t c others =
+    let a = c.args in
+    on_err c.from_residual.result
+    (passed_here (setup_of a.round.now) (do_rest a.edit.now others a.depth ∷ [])
+    (stands a.text.now.state (g.S.Shelf.minds a.shelf.now) a.log.now.items a.spent.now))
+
+pub do_edit-returns-in_err-log_barred-clause-err : goal.do_edit-returns-in_err-log_barred-clause-err
+do_edit-returns-in_err-log_barred-clause-err g t c others =
+    let a = c.args in
+    on_err c.from_residual-in_err-log_barred.result
+    (passed_still a.text.now.state (g.S.Shelf.minds a.shelf.now) _ a.log.now.items _ a.spent.now (refl, c.in_err-log_barred.ensures.err)
+    (passed_here (setup_of a.round.now) (do_rest a.edit.now others a.depth ∷ [])
+    (stands a.text.now.state (g.S.Shelf.minds a.shelf.now) a.log.now.items a.spent.now)))
+
+pub do_edit-returns-then-is_barred-clause-ok : goal.do_edit-returns-then-is_barred-clause-ok
+do_edit-returns-then-is_barred-clause-ok g t c others =
+    let laws : AreLaws g.F.Follower.takes = record { none = g.met.F.Follower.takes_none; both = g.met.F.Follower.takes_both } in
+    let a = c.args in
+    led_barred laws (setup_of a.round.now) a.edit.now others a.depth c.in_ok-step.step a.text.now.state (g.S.Shelf.minds a.shelf.now) a.log.now.items
+    c.log_barred.new.log.items a.spent.now a.follower.now c.in_ok-step.ensures.step (c.in_ok-log_barred.ensures.log a.text.now.state)
+    (sym c.is_barred.ensures.barred ∙ c.if-is_barred.true)
+
+pub do_edit-returns-in_err-judged-clause-err : goal.do_edit-returns-in_err-judged-clause-err
+do_edit-returns-in_err-judged-clause-err g t c others =
+    let a = c.args in
+    on_err c.from_residual-in_err-judged.result
+    (passed_still a.text.now.state (g.S.Shelf.minds a.shelf.now) _ a.log.now.items _ a.spent.now (refl, c.in_err-judged.ensures.err)
+    (passed_here (setup_of a.round.now) (do_rest a.edit.now others a.depth ∷ [])
+    (stands a.text.now.state (g.S.Shelf.minds a.shelf.now) a.log.now.items a.spent.now)))
+
+pub do_edit-returns-in_err-set_off-clause-err : goal.do_edit-returns-in_err-set_off-clause-err
+do_edit-returns-in_err-set_off-clause-err g t c others =
+    let a = c.args in
+    let judged = c.in_ok-judged.ensures in
+    on_err c.from_residual-in_err-set_off.result
+    (passed_begun (setup_of a.round.now) a.edit.now others a.depth c.in_ok-step.step c.in_ok-judged.judged.brought c.in_ok-judged.judged.verdict
+    a.text.now.state
+    (g.S.Shelf.minds a.shelf.now) a.log.now.items c.judge_and_log.new.log.items a.spent.now c.in_ok-step.ensures.step judged.log
+    (sym c.is_barred.ensures.barred ∙ c.if-is_barred.false) judged.brought judged.verdict c.in_err-set_off.ensures.err)
+
+pub do_edit-returns-clause-ok : goal.do_edit-returns-clause-ok
+do_edit-returns-clause-ok g t c others =
+    let a = c.args in
+    let judged = c.in_ok-judged.ensures in
+    led_begun (setup_of a.round.now) a.edit.now others a.depth c.in_ok-step.step c.in_ok-judged.judged.brought c.in_ok-judged.judged.verdict a.text.now.state
+    (g.S.Shelf.minds a.shelf.now) a.log.now.items c.judge_and_log.new.log.items a.spent.now c.in_ok-step.ensures.step judged.log
+    (sym c.is_barred.ensures.barred ∙ c.if-is_barred.false) judged.brought judged.verdict c.in_ok-set_off.ensures.ok
+
+-- ---- set_off
+
+pub set_off-returns-in_default : goal.set_off-returns-in_default
+set_off-returns-in_default g t c =
+    let laws : AreLaws g.F.Follower.takes = record { none = g.met.F.Follower.takes_none; both = g.met.F.Follower.takes_both } in
+    let a = c.args in
+    record {
+      ok = led_undone laws (setup_of a.round.now) a.text.now.state a.depth a.found.now.brought a.found.now.verdict
+          (stands a.text.now.state (g.S.Shelf.minds a.shelf.now) a.log.now.items a.spent.now) a.follower.now c.in_default.not-Done;
+      err = tt;
+      ready = c.requires.ready;
+      followed = c.requires.followed;
+      layout_ground = refl;
+    }
+
+pub set_off-returns-in_err-told-clause-err : goal.set_off-returns-in_err-told-clause-err
+set_off-returns-in_err-told-clause-err g t c =
+    let a = c.args in
+    on_err c.from_residual.result
+    (passed_here (setup_of a.round.now) (on_done a.found.now.verdict (events a.text.now.state a.depth a.found.now.brought) [])
+    (stands a.text.now.state (g.S.Shelf.minds a.shelf.now) a.log.now.items a.spent.now))
+
+pub set_off-returns-in_err-tell_all_before-clause-err : goal.set_off-returns-in_err-tell_all_before-clause-err
+set_off-returns-in_err-tell_all_before-clause-err g t c =
+    let a = c.args in
+    let told = c.as_slice-slots.ensures.value ∙ c.in_ok-told.ensures.listeners in
+    let sets = sets_off_done a.text.now.state a.depth a.found.now.brought a.found.now.verdict c.as_slice-slots.result.now c.event_of-event.result
+    c.in-Done.is told c.event_of-event.ensures.event in
+    on_err c.from_residual-in_err-tell_all_before.result (passed_before sets (c.in_err-tell_all_before.ensures.err a.spent.now))
+
+pub set_off-returns-in_err-change-clause-err : goal.set_off-returns-in_err-change-clause-err
+set_off-returns-in_err-change-clause-err g t c =
+    let a = c.args in
+    let told = c.as_slice-slots.ensures.value ∙ c.in_ok-told.ensures.listeners in
+    let sets = sets_off_done a.text.now.state a.depth a.found.now.brought a.found.now.verdict c.as_slice-slots.result.now c.event_of-event.result
+    c.in-Done.is told c.event_of-event.ensures.event in
+    let before = c.in_ok-tell_all_before.ensures.ok a.spent.now in
+    let change = passed_change (setup_of a.round.now) a.found.now.brought a.text.now.state c.change.new.text.state (g.S.Shelf.minds c.tell_all_before.new.shelf)
+    c.tell_all_before.new.log.items a.spent.now c.in_err-change.ensures.err in
+    on_err c.from_residual-in_err-change.result (passed_at_change sets before change)
+
+pub set_off-returns-in_err-tell_all_changed-clause-err : goal.set_off-returns-in_err-tell_all_changed-clause-err
+set_off-returns-in_err-tell_all_changed-clause-err g t c =
+    let a = c.args in
+    let told = c.as_slice-slots.ensures.value ∙ c.in_ok-told.ensures.listeners in
+    let sets = sets_off_done a.text.now.state a.depth a.found.now.brought a.found.now.verdict c.as_slice-slots.result.now c.event_of-event.result
+    c.in-Done.is told c.event_of-event.ensures.event in
+    let before = c.in_ok-tell_all_before.ensures.ok a.spent.now in
+    let change = led_change {takes = g.F.Follower.takes} (setup_of a.round.now) a.found.now.brought a.text.now.state c.change.new.text.state
+    (g.S.Shelf.minds c.tell_all_before.new.shelf) c.tell_all_before.new.log.items a.spent.now a.follower.now c.change.new.follower
+    c.in_ok-change.ensures.state c.in_ok-change.ensures.takes in
+    on_err c.from_residual-in_err-tell_all_changed.result (passed_changed sets before change (c.in_err-tell_all_changed.ensures.err a.spent.now))
+
+pub set_off-returns-clause-ok : goal.set_off-returns-clause-ok
+set_off-returns-clause-ok g t c =
+    let laws : AreLaws g.F.Follower.takes = record { none = g.met.F.Follower.takes_none; both = g.met.F.Follower.takes_both } in
+    let a = c.args in
+    let told = c.as_slice-slots.ensures.value ∙ c.in_ok-told.ensures.listeners in
+    let sets = sets_off_done a.text.now.state a.depth a.found.now.brought a.found.now.verdict c.as_slice-slots.result.now c.event_of-event.result
+    c.in-Done.is told c.event_of-event.ensures.event in
+    let before = c.in_ok-tell_all_before.ensures.ok a.spent.now in
+    let change = led_change {takes = g.F.Follower.takes} (setup_of a.round.now) a.found.now.brought a.text.now.state c.change.new.text.state
+    (g.S.Shelf.minds c.tell_all_before.new.shelf) c.tell_all_before.new.log.items a.spent.now a.follower.now c.change.new.follower
+    c.in_ok-change.ensures.state c.in_ok-change.ensures.takes in
+    let changed = c.in_ok-tell_all_changed.ensures.ok a.spent.now in
+    on_ok_then c.ask_all.result c.ask_all.ensures.ok (λ after. led_set_off laws sets before change changed after)
+
+pub set_off-returns-clause-err : goal.set_off-returns-clause-err
+set_off-returns-clause-err g t c =
+    let a = c.args in
+    let told = c.as_slice-slots.ensures.value ∙ c.in_ok-told.ensures.listeners in
+    let sets = sets_off_done a.text.now.state a.depth a.found.now.brought a.found.now.verdict c.as_slice-slots.result.now c.event_of-event.result
+    c.in-Done.is told c.event_of-event.ensures.event in
+    let before = c.in_ok-tell_all_before.ensures.ok a.spent.now in
+    let change = led_change {takes = g.F.Follower.takes} (setup_of a.round.now) a.found.now.brought a.text.now.state c.change.new.text.state
+    (g.S.Shelf.minds c.tell_all_before.new.shelf) c.tell_all_before.new.log.items a.spent.now a.follower.now c.change.new.follower
+    c.in_ok-change.ensures.state c.in_ok-change.ensures.takes in
+    let changed = c.in_ok-tell_all_changed.ensures.ok a.spent.now in
+    on_err_then c.ask_all.result c.ask_all.ensures.err (λ after. passed_after sets before change changed after)

@@ -1,0 +1,180 @@
+//! What is asked of the text: items and edits as steps, and their texts filtered.
+
+ghost use Rattle.std.specs.Prelude.{◌≡◌, ◌≤◌, length, IfOk, if◌then◌else◌};
+ghost use Rattle.edit_model.specs.State.{State, place};
+ghost use Rattle.edit_model.specs.Brought.{IsBrought};
+ghost use Rattle.edit_model.specs.Filtered.{lies_within, filtered, filtered_step};
+ghost use Rattle.edit_model.specs.Fitting.{IsFittingStep, IsFittingItem};
+ghost use Rattle.edit_model.specs.Machine.{alone, asked_by, resolved};
+
+use edit_base::{Edit, Incoming, Items, NoMemory};
+use edit_model::{Filter, Item, Step};
+use input_filters::filter_all;
+use replace_engine::SpannedText;
+use std::alloc::Global;
+
+/// What an item asks the text for at its turn.
+#[tactic(auto, unfolding(edit_model::specs::Machine::resolved))]
+pub fn resolve(alloc: Global, item: &Item) -> Result<Step, NoMemory>
+    requires { IsFittingItem item.now }
+    ensures step { (state : State) → IfOk result (λ step. step ≡ resolved state item.now) }
+    ensures fitting { IfOk result IsFittingStep }
+{
+    match item {
+        Item::Edit(edit) => ask(alloc, edit),
+        Item::Replace {
+            start,
+            end,
+            incoming,
+        } => Ok(Step::Replace {
+            start: *start,
+            end: *end,
+            incoming: copy_of(alloc, incoming)?,
+        }),
+    }
+}
+
+/// What an edit asks the text for.
+#[tactic(auto, unfolding(edit_model::specs::Machine::asked_by))]
+pub fn ask(alloc: Global, edit: &Edit) -> Result<Step, NoMemory>
+    ensures step { IfOk result (λ step. step ≡ asked_by edit.now) }
+    ensures fitting { IfOk result IsFittingStep }
+{
+    match edit {
+        Edit::Replace { start, end, text } => Ok(Step::Replace {
+            start: *start,
+            end: *end,
+            incoming: come_alone(alloc, text.as_slice())?,
+        }),
+        Edit::SetSpan {
+            id,
+            start,
+            end,
+            flags,
+            what,
+        } => Ok(Step::Set {
+            id: *id,
+            start: *start,
+            end: *end,
+            flags: *flags,
+            what: *what,
+        }),
+        Edit::RemoveSpan { id } => Ok(Step::Remove { id: *id }),
+        Edit::Select { .. } => Ok(Step::Remove { id: 0 }),
+    }
+}
+
+// Units that come without spans.
+fn come_alone(alloc: Global, units: &[u16]) -> Result<Incoming, NoMemory>
+    requires { length units.now ≤ Incoming.MOST }
+    ensures incoming { IfOk result (λ it. it ≡ alone units.now) }
+    ensures brought { IfOk result IsBrought }
+{
+    Ok(Incoming {
+        units: Items::from_vec(units.to_vec(alloc)?),
+        spans: Items::from_vec(Vec::new(alloc)),
+        composing: false,
+    })
+}
+
+// The same units and spans.
+fn copy_of(alloc: Global, incoming: &Incoming) -> Result<Incoming, NoMemory>
+    ensures { IfOk result (λ it. it ≡ incoming.now) }
+{
+    Ok(Incoming {
+        units: Items::from_vec(incoming.units.as_slice().to_vec(alloc)?),
+        spans: Items::from_vec(incoming.spans.as_slice().to_vec(alloc)?),
+        composing: incoming.composing,
+    })
+}
+
+/// The edit with its text filtered, where its places lie in the text.
+pub fn bring(
+    alloc: Global,
+    filters: &[Filter],
+    step: &Step,
+    text: &SpannedText,
+) -> Result<Step, NoMemory>
+    requires { IsFittingStep step.now }
+    ensures step { IfOk result (λ it. it ≡ filtered_step filters.now text.now.state step.now) }
+    ensures fitting { IfOk result IsFittingStep }
+{
+    match step {
+        Step::Replace {
+            start,
+            end,
+            incoming,
+        } => Ok(Step::Replace {
+            start: *start,
+            end: *end,
+            incoming: filter(alloc, filters, *start, *end, incoming, text)?,
+        }),
+        Step::Set {
+            id,
+            start,
+            end,
+            flags,
+            what,
+        } => Ok(Step::Set {
+            id: *id,
+            start: *start,
+            end: *end,
+            flags: *flags,
+            what: *what,
+        }),
+        Step::Remove { id } => Ok(Step::Remove { id: *id }),
+    }
+}
+
+// What the filters make of an incoming text, where its places lie in the text, and else a copy.
+fn filter(
+    alloc: Global,
+    filters: &[Filter],
+    start: i32,
+    end: i32,
+    incoming: &Incoming,
+    text: &SpannedText,
+) -> Result<Incoming, NoMemory>
+    requires { IsBrought incoming.now }
+    ensures incoming { IfOk result (λ it. it ≡ (if lies_within text.now.state start end
+        then filtered filters.now incoming.now (length text.now.state.units) (place start) (place end)
+        else incoming.now)) }
+    ensures brought { IfOk result IsBrought }
+{
+    if !lies_within(start, end, text) {
+        return copy_of(alloc, incoming);
+    }
+    filter_all(
+        alloc,
+        filters,
+        incoming,
+        text.len(),
+        place_of(start),
+        place_of(end),
+    )
+}
+
+// Whether the places lie in the text, in order.
+fn lies_within(start: i32, end: i32, text: &SpannedText) -> bool
+    ensures { result ≡ lies_within text.now.state start end }
+{
+    let length = i64::from(text.len());
+    let (start, end) = (i64::from(start), i64::from(end));
+    if end < start {
+        return false;
+    }
+    if start > length || end > length {
+        return false;
+    }
+    if start < 0 || end < 0 {
+        return false;
+    }
+    true
+}
+
+/// A place that is known not to be below 0.
+pub fn place_of(at: i32) -> u32
+    ensures { result ≡ place at }
+{
+    if at < 0 { 0 } else { at as u32 }
+}

@@ -1,0 +1,17 @@
+//! The engine of nested edits: one item of a command, with all that its watchers are told and answer.
+#![tactic(auto)]
+
+mod asking;
+mod changing;
+mod judging;
+mod logging;
+mod round;
+mod rounds;
+mod shelf;
+mod telling;
+#[cfg(test)]
+mod tests;
+
+pub use edit_model::{Item, LogEntry, Logged};
+pub use round::{Log, Slots};
+pub use rounds::apply;
