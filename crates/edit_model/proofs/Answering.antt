@@ -1,11 +1,14 @@
 -- What the rules of all kinds have in common.
-use Rattle.std.proofs.Common.{◌≡◌, ℕ, ◌<◌, ◌≤◌, Bool, true, false, cond, eqb, List, [], ◌∷◌, length, refl, arith}
+use Rattle.std.proofs.Common.{◌≡◌, ℕ, ◌<◌, ◌≤◌, Bool, true, false, cond, eqb, Option, Some, None, List, [], ◌∷◌, length, refl, arith}
 use Rattle.std.specs.List.{AllByRecursion}
 use Rattle.std.proofs.lemmas.Bool.{ne_eqb}
+use Rattle.edit_base.specs.declared.edits.Edit.{Edit}
 use Rattle.edit_model.specs.declared.events.TextEvent.{TextEvent}
 use Rattle.edit_model.specs.declared.events.SpanEvent.{SpanEvent}
-use Rattle.edit_model.specs.Minds.{Mind, Said, Rules, first_said, replaces, unknown, note, pair, pair_lines, echo, echo_lines, kinds, row_of, rules_of}
-use Rattle.edit_model.specs.MindLaws.{IsAnswer, last_kind}
+use Rattle.edit_model.specs.declared.events.SpanChange.{SpanChange}
+use Rattle.edit_model.specs.declared.events.SpanChange.TheVariants.{Added, Moved, Removed}
+use Rattle.edit_model.specs.Minds.{Mind, Said, Rules, first_said, replaces, edit_at, unknown, note, pair, pair_lines, swap, limit, squeeze, paint, follow, follow_change, echo, echo_lines, kinds, row_of, rules_of}
+use Rattle.edit_model.specs.MindLaws.{IsBrief, IsAnswer, last_kind}
 
 -- ---- one kind
 
@@ -43,6 +46,53 @@ brief-pair = record {
   span = λ mind event units. no-edits;
 }
 
+one-brief : (edit : Edit) → IsBrief edit → IsAnswer (edit ∷ [])
+one-brief edit brief = record { few = omega arith; brief = (brief, tt) }
+
+-- one edit at a place, where there is one
+at-place : (edits : ℕ → List Edit) → ((at : ℕ) → IsAnswer (edits at)) → (at : Option ℕ) → IsAnswer (edit_at edits at)
+at-place edits each None = no-edits
+at-place edits each (Some at) = each at
+
+pub one-if : (test : Bool) (edits : List Edit) → IsAnswer edits → IsAnswer (cond test edits [])
+one-if true edits here = here
+one-if false edits here = no-edits
+
+brief-swap : IsBriefKind swap
+brief-swap = record {
+  after = λ mind event units. at-place _ (λ at. one-edit _ _ _ (omega arith)) _;
+  span = λ mind event units. no-edits;
+}
+
+brief-limit : IsBriefKind limit
+brief-limit = record {
+  after = λ mind event units. one-if _ _ (one-edit _ _ _ (omega arith));
+  span = λ mind event units. no-edits;
+}
+
+brief-squeeze : IsBriefKind squeeze
+brief-squeeze = record {
+  after = λ mind event units. at-place _ (λ at. one-edit _ _ _ (omega arith)) _;
+  span = λ mind event units. no-edits;
+}
+
+brief-paint : IsBriefKind paint
+brief-paint = record {
+  after = λ mind event units. one-if _ _ (one-brief _ tt);
+  span = λ mind event units. no-edits;
+}
+
+follows-briefly : (change : SpanChange) (target : ℕ) (event : SpanEvent) → IsAnswer (follow_change change target event)
+follows-briefly Added target event = one-brief _ tt
+follows-briefly Moved target event = one-brief _ tt
+follows-briefly Removed target event = one-brief _ tt
+
+brief-follow : IsBriefKind follow
+brief-follow = record {
+  after = λ mind event units. no-edits;
+  span = λ mind event units. one-if _ _ (follows-briefly event.change _ event);
+}
+
 brief-echo : IsBriefKind echo
 brief-echo = record {
   after = λ mind event units. first-said (echo_lines mind event units) _ (one-edit _ _ _ (omega arith), tt) no-edits;
@@ -60,7 +110,8 @@ of-row P kind [] each other = other
 of-row P kind (row ∷ rows) each other = one-row P (eqb kind row.0) row.1 (row_of kind rows) each.0 (of-row P kind rows each.1 other)
 
 pub brief-kind : (kind : ℕ) → IsBriefKind (rules_of kind)
-brief-kind kind = of-row IsBriefKind kind kinds (brief-note, (brief-pair, (brief-echo, tt))) brief-unknown
+brief-kind kind = of-row IsBriefKind kind kinds
+    (brief-note, (brief-pair, (brief-swap, (brief-limit, (brief-squeeze, (brief-paint, (brief-follow, (brief-echo, tt)))))))) brief-unknown
 
 no-row : (kind : ℕ) (rows : List (ℕ × Rules)) → AllByRecursion (λ row. eqb kind row.0 ≡ false) rows → row_of kind rows ≡ unknown
 no-row kind [] each = refl
@@ -68,4 +119,17 @@ no-row kind (row ∷ rows) each = rw each.0 (no-row kind rows each.1)
 
 pub no-rules : (kind : ℕ) → last_kind < kind → rules_of kind ≡ unknown
 no-rules kind behind =
-    no-row kind kinds (ne_eqb kind 0 (omega (arith, behind)), (ne_eqb kind 1 (omega (arith, behind)), (ne_eqb kind 7 (omega (arith, behind)), tt)))
+    let other = λ (number : ℕ) (below : number < kind). ne_eqb kind number (omega (arith, below)) in
+    no-row kind kinds (
+      other 0 (omega (arith, behind)),
+      (
+        other 1 (omega (arith, behind)),
+        (
+          other 2 (omega (arith, behind)),
+          (
+            other 3 (omega (arith, behind)),
+            (other 4 (omega (arith, behind)), (other 5 (omega (arith, behind)), (other 6 (omega (arith, behind)), (other 7 (omega (arith, behind)), tt)))),
+          ),
+        ),
+      ),
+    )

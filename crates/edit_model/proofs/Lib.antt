@@ -1,4 +1,3 @@
-pub mod OverLists
 pub mod Tests
 pub mod Tables
 pub mod FullTables
@@ -11,6 +10,7 @@ pub mod Ends
 pub mod KeptBoundaries
 pub mod MovedSpans
 pub mod SpanLists
+pub mod OverLists
 pub mod Newcomers
 pub mod Replacements
 pub mod AttachedSpans
@@ -18,6 +18,7 @@ pub mod EditedStates
 pub mod Watchers
 pub mod FilterLaws
 pub mod Unfiltered
+pub mod SpanEvents
 pub mod MachineRuns
 pub mod Outcomes
 pub mod Answering

@@ -1,18 +1,10 @@
 -- Runs of the agenda machine, joined.
-use Rattle.std.proofs.Common.{◌≡◌, ◌∙◌, ℕ, zero, suc, ◌+◌, ◌<◌, ◌≤◌, ◌≢◌, Bool, true, false, cond, List, [], ◌∷◌, ◌++◌, map, refl, sym, ap, subst, append_assoc, append-nil, arith}
-use Rattle.std.proofs.lemmas.Bool.Decides.{nat_tests}
-use Rattle.edit_base.specs.declared.edits.Edit.{Edit}
+use Rattle.std.proofs.Common.{◌≡◌, ◌∙◌, ℕ, zero, suc, ◌+◌, ◌≢◌, List, [], ◌∷◌, ◌++◌, refl, sym, ap, subst, append_assoc, arith}
 use Rattle.edit_base.specs.declared.verdicts.Verdict.{Verdict}
 use Rattle.edit_base.specs.declared.verdicts.Verdict.TheVariants.{Done, NoChange, Ignored, Absent, Refused}
 use Rattle.edit_model.specs.declared.items.Item.{Item}
-use Rattle.edit_model.specs.declared.events.TextEvent.{TextEvent}
-use Rattle.edit_model.specs.declared.steps.Step.{Step}
-use Rattle.edit_model.specs.declared.steps.Step.TheVariants as ask
-use Rattle.edit_model.specs.State.{State}
 use Rattle.edit_model.specs.Changed.{on_done}
-use Rattle.edit_model.specs.Minds.{answer_after}
-use Rattle.edit_model.specs.Events.{listeners, text_event}
-use Rattle.edit_model.specs.Machine.{Setup, Scene, Config, Task, at, run_item, do_rest, make_change, tell_before, tell_changed, tell_after, rest_of, asked_by, resolved, is_barred, verdict_at, as_brought, events, sets_off, edit_logged, with_one_begun, answer_begun, mind_in, task_done, step, steps, Reaches, Leads, Passes, Ends}
+use Rattle.edit_model.specs.Machine.{Setup, Scene, Config, Task, at, resolved, verdict_at, edit_logged, task_done, step, steps, Reaches, Leads, Ends}
 
 -- ---- steps
 

@@ -1,29 +1,37 @@
 -- The agenda machine leads to what an item comes to.
 use Rattle.std.proofs.Common.{◌≡◌, ◌∙◌, ℕ, zero, suc, ◌+◌, ◌<◌, Bool, true, false, cond, List, [], ◌∷◌, ◌++◌, map, refl, sym, ap, subst, append_assoc, arith}
+use Rattle.std.specs.List.{AllByRecursion}
 use Rattle.std.proofs.lemmas.Bool.Decides.{nat_tests}
 use Rattle.edit_base.specs.declared.edits.Edit.{Edit}
 use Rattle.edit_base.specs.declared.verdicts.Verdict.{Verdict}
 use Rattle.edit_base.specs.declared.verdicts.Verdict.TheVariants.{Done, NoChange, Ignored, Absent, Refused}
 use Rattle.edit_model.specs.declared.items.Item.{Item}
 use Rattle.edit_model.specs.declared.events.TextEvent.{TextEvent}
+use Rattle.edit_model.specs.declared.events.SpanCallback.{SpanCallback}
 use Rattle.edit_model.specs.declared.steps.Step.{Step}
 use Rattle.edit_model.specs.declared.steps.Step.TheVariants as ask
 use Rattle.edit_model.specs.State.{State}
 use Rattle.edit_model.specs.Changed.{on_done}
-use Rattle.edit_model.specs.Minds.{answer_after}
-use Rattle.edit_model.specs.Events.{listeners, text_event}
-use Rattle.edit_model.specs.Machine.{Setup, Scene, Task, at, run_item, do_rest, make_change, tell_before, tell_changed, tell_after, rest_of, asked_by, resolved, is_barred, verdict_at, as_brought, events, sets_off, edit_logged, with_one_begun, answer_begun, changed_by, mind_in, Leads, Ends}
-use Rattle.edit_model.specs.Outcome.{Answered, told_each, before_told, changed_told, after_told, behind_change, behind_edit, behind_answer, answered_at, outcome}
+use Rattle.edit_model.specs.Minds.{answer_after, answer_span}
+use Rattle.edit_model.specs.Events.{listeners, text_event, span_callbacks}
+use Rattle.edit_model.specs.Machine.{Setup, Scene, Task, at, run_item, do_rest, make_change, tell_before, tell_changed, tell_after, tell_span, rest_of, asked_by, resolved, is_barred, verdict_at, as_brought, events, sets_off, edit_logged, with_one_begun, answer_begun, changed_by, mind_in, Leads, Ends}
+use Rattle.edit_model.specs.Outcome.{Answered, told_each, before_told, changed_told, after_told, span_told, behind_change, behind_edit, behind_answer, answered_at, outcome}
+use Rattle.edit_model.proofs.SpanLists.{all_each, all-weaker}
+use Rattle.edit_model.proofs.SpanEvents.{HasDepth, depth-span_callbacks}
 use Rattle.edit_model.proofs.MachineRuns.{leads_none, leads_on, leads_then, leads_first}
 
 -- some tasks lead from every scene to what a function makes of it
 abbrev Makes : Setup → List Task → (Scene → Scene) → Type 0
 Makes r tasks f = (s : Scene) → Leads r tasks [] s (f s)
 
+makes_all : {X : Type 0} (r : Setup) (task : X → Task) (tell : X → Scene → Scene) (xs : List X)
+    → AllByRecursion (λ x. Makes r (task x ∷ []) (tell x)) xs → Makes r (map task xs) (told_each tell xs)
+makes_all r task tell [] each s = leads_none r [] s
+makes_all r task tell (x ∷ xs) each s = leads_then (each.0 s) (makes_all r task tell xs each.1 (tell x s))
+
 makes_each : (r : Setup) (task : ℕ → Task) (tell : ℕ → Scene → Scene) → ((slot : ℕ) → Makes r (task slot ∷ []) (tell slot))
     → (slots : List ℕ) → Makes r (map task slots) (told_each tell slots)
-makes_each r task tell each [] s = leads_none r [] s
-makes_each r task tell each (slot ∷ slots) s = leads_then (each slot s) (makes_each r task tell each slots (tell slot s))
+makes_each r task tell each slots = makes_all r task tell slots (all_each (λ slot. Makes r (task slot ∷ []) (tell slot)) each slots)
 
 -- an event has the depth of its edit
 pub depth-text_event : (depth : ℕ) (asked : Step) → (text_event depth asked).depth ≡ depth
@@ -51,6 +59,19 @@ makes_after r event answered makes slot s =
     leads_on (leads_first {left = rest_of (answer_after (mind_in r slot s) event s.state.units) (event.depth + 1)} (λ rest. refl))
     (makes (answer_after (mind_in r slot s) event s.state.units) _)
 
+makes_span : (r : Setup) (depth : ℕ) (answered : Answered) → AnswersMake r (depth + 1) answered → (told : SpanCallback) → told.event.depth ≡ depth
+    → Makes r (tell_span told.slot told.event ∷ []) (span_told r answered told)
+makes_span r depth answered makes told is s =
+    let edits = answer_span (mind_in r told.slot s) told.event s.state.units in
+    leads_on (leads_first {left = rest_of edits (told.event.depth + 1)} (λ rest. refl))
+    (subst (λ d. AnswersMake r (d + 1) answered) (sym is) makes edits _)
+
+makes_spans : (r : Setup) (depth : ℕ) (answered : Answered) → AnswersMake r (depth + 1) answered → (told : List SpanCallback)
+    → AllByRecursion (HasDepth depth) told → Makes r (map (λ one. tell_span one.slot one.event) told) (told_each (span_told r answered) told)
+makes_spans r depth answered makes told deep =
+    makes_all r (λ one. tell_span one.slot one.event) (span_told r answered) told
+    (all-weaker (HasDepth depth) _ (makes_span r depth answered makes) told deep)
+
 makes_events : (r : Setup) (depth : ℕ) (asked : Step) (answered : Answered) (state : State) → AnswersMake r (depth + 1) answered
     → Makes r (events state depth asked) (behind_change r depth asked answered state)
 makes_events r depth asked answered state makes s =
@@ -59,8 +80,9 @@ makes_events r depth asked answered state makes s =
     leads_then (makes_each r (λ slot. tell_before slot event) (before_told r event) (makes_before r event) slots s)
     (leads_then (makes_change r asked _)
     (leads_then (makes_each r (λ slot. tell_changed slot event) (changed_told r event) (makes_changed r event) slots _)
-    (makes_each r (λ slot. tell_after slot event) (after_told r event answered)
-    (makes_after r event answered (subst (λ d. AnswersMake r (d + 1) answered) (sym (depth-text_event depth asked)) makes)) slots _)))
+    (leads_then (makes_each r (λ slot. tell_after slot event) (after_told r event answered)
+    (makes_after r event answered (subst (λ d. AnswersMake r (d + 1) answered) (sym (depth-text_event depth asked)) makes)) slots _)
+    (makes_spans r depth answered makes (span_callbacks state depth asked) (depth-span_callbacks state depth asked) _))))
 
 -- what an edit sets off, whatever its verdict
 makes_if_done : (r : Setup) (verdict : Verdict) (tasks : List Task) (done s : Scene) → Leads r tasks [] s done

@@ -1,13 +1,20 @@
 -- What an edit tells watchers, and which of them.
-use Rattle.std.specs.Prelude.{ℕ, ◌-◌, List, [], length, map}
+use Rattle.std.specs.Prelude.{ℕ, ◌≡◌, ◌<◌, ◌-◌, ◌++◌, ◌==◌, not, List, [], length, map, filter, min, max}
+use Rattle.std.specs.List.{flat_map}
 use Rattle.edit_base.specs.declared.kinds.What.{What}
 use Rattle.edit_base.specs.declared.kinds.What.TheVariants.{Tag, Face, Margin, Float, Watch, SelStart, SelEnd, Composing}
 use Rattle.edit_base.specs.declared.rows.Pick.TheVariants.{Watches}
 use Rattle.edit_model.specs.declared.events.TextEvent.{TextEvent}
+use Rattle.edit_model.specs.declared.events.SpanEvent.{SpanEvent}
+use Rattle.edit_model.specs.declared.events.SpanChange.{SpanChange}
+use Rattle.edit_model.specs.declared.events.SpanChange.TheVariants.{Added, Moved, Removed}
+use Rattle.edit_model.specs.declared.events.SpanCallback.{SpanCallback}
 use Rattle.edit_model.specs.declared.steps.Step.{Step}
 use Rattle.edit_model.specs.declared.steps.Step.TheVariants as step
 use Rattle.edit_model.specs.State.{State, Span, place}
 use Rattle.edit_model.specs.Over.{over}
+use Rattle.edit_model.specs.Changed.{Shift, Effect, change_of, stepped}
+use Rattle.edit_model.specs.Minds.{IsToldSpan}
 
 -- the slot of a watcher's seat, and 0 of any other what
 abbrev pub seat_of : What → ℕ
@@ -36,3 +43,57 @@ text_event depth (step.Replace start end incoming) =
     record { depth = depth; start = place start; before = place end - place start; after = length incoming.units }
 text_event depth (step.Set id start end flags what) = record { depth = depth; start = 0; before = 0; after = 0 }
 text_event depth (step.Remove id) = record { depth = depth; start = 0; before = 0; after = 0 }
+
+-- ---- spans
+
+-- a span that an edit added, moved or removed, before the edit and after it
+abbrev pub span_event : ℕ → SpanChange → Span → Span → SpanEvent
+span_event depth change from to = record {
+  depth = depth;
+  id = to.id;
+  change = change;
+  old_start = from.start;
+  old_end = from.end;
+  start = to.start;
+  end = to.end;
+}
+
+-- those who are told of a span: the watchers whose seats lie over a range, but for a seat that is the span itself, in a
+-- query's order
+abbrev pub beside : ℕ → ℕ → ℕ → List Span → List ℕ
+beside id start end spans = seats_of (filter (λ seat. not (seat.id == id)) (over start end Watches spans))
+
+-- each of these slots is told of an event
+abbrev pub callbacks : SpanEvent → List ℕ → List SpanCallback
+callbacks event slots = map (λ slot. record { slot = slot; event = event }) slots
+
+-- of a removed span those are told that lay over its place
+abbrev pub removed_told : ℕ → State → Span → List SpanCallback
+removed_told depth old span = callbacks (span_event depth Removed span span) (beside span.id span.start span.end old.spans)
+
+-- of a moved span those that lie over all from its old place to its new one, as far as the new text reaches
+abbrev pub moved_told : ℕ → State → Shift → List SpanCallback
+moved_told depth new shift =
+    callbacks (span_event depth Moved shift.from shift.to)
+    (beside shift.to.id (min shift.from.start shift.to.start) (min (max shift.from.end shift.to.end) (length new.units)) new.spans)
+
+-- and of an added span those that lie over its place
+abbrev pub added_told : ℕ → State → Span → List SpanCallback
+added_told depth new span = callbacks (span_event depth Added span span) (beside span.id span.start span.end new.spans)
+
+-- of an edit's spans, between two states: first those that it removed, then those that it moved, then those that it added,
+-- each group in order of attachment
+abbrev pub spans_told : ℕ → State → State → Effect → List SpanCallback
+spans_told depth old new effect =
+    flat_map (removed_told depth old) effect.removed
+    ++ (flat_map (moved_told depth new) effect.moved ++ flat_map (added_told depth new) effect.added)
+
+-- what an edit that is done tells of spans, all of it known when the change is made
+unfoldable pub span_callbacks : State → ℕ → Step → List SpanCallback
+span_callbacks state depth asked = spans_told depth state (stepped state asked) (change_of state asked)
+
+-- a callback of this depth, to one of so many slots, that a watcher may be told
+pub record IsCallback (count deep : ℕ) (told : SpanCallback) : Type 0 where
+  pub slot : told.slot < count
+  pub depth : told.event.depth ≡ deep
+  pub places : IsToldSpan told.event

@@ -6,6 +6,7 @@ use Rattle.edit_base.specs.declared.verdicts.Verdict.TheVariants.{Refused}
 use Rattle.edit_base.specs.declared.verdicts.Refusal.TheVariants.{Below}
 use Rattle.edit_model.specs.declared.commands.Command.TheVariants as command
 use Rattle.edit_model.specs.declared.entries.LogEntry.TheVariants as entry
+use Rattle.edit_model.specs.declared.events.SpanChange.TheVariants.{Added, Moved, Removed}
 use Rattle.edit_model.specs.declared.faults.TraceFault.TheVariants as fault
 use Rattle.edit_model.specs.declared.filters.Filter.TheVariants.{Length, AsciiUpper, Allow, NoNewline}
 use Rattle.edit_model.specs.State.{Span}
@@ -66,10 +67,16 @@ AttachesRegion =
     × (came_spans (record { units = codes "xy"; spans = [] }) 1 2 (record { units = []; spans = []; composing = true }) ≡ [])
 
 -- a refused edit; then a letter, the quote, the backslash, a line's end, half of a surrogate pair, the last plain unit
--- and the one behind it
+-- and the one behind it; then a span that came, one that went, and one that moved
 abbrev pub PrintsLines : Type 0
 PrintsLines =
     (entry_line (entry.Replace 0 (negsuc 0) (pos 0) 0 (record { verdict = Refused Below; number = 3 }))
     ≡ codes "edit 0 replace -1 0 0 refused below 3\n")
     × (text_line (97 ∷ 34 ∷ 92 ∷ 10 ∷ 55357 ∷ 126 ∷ 127 ∷ [])
     ≡ codes "text 7 \"a\\u0022\\u005c\\u000a\\ud83d~\\u007f\"\n")
+    × (entry_line (entry.Span 0 (record { depth = 1; id = 20; change = Added; old_start = 0; old_end = 2; start = 0; end = 2 }))
+    ≡ codes "added 1 0 20 0 2\n")
+    × (entry_line (entry.Span 0 (record { depth = 0; id = 5; change = Removed; old_start = 1; old_end = 4; start = 1; end = 4 }))
+    ≡ codes "removed 0 0 5 1 4\n")
+    × (entry_line (entry.Span 1 (record { depth = 0; id = 10; change = Moved; old_start = 0; old_end = 0; start = 0; end = 1 }))
+    ≡ codes "moved 0 1 10 0 0 0 1\n")

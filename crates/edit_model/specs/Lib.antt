@@ -34,3 +34,4 @@ pub mod ShelfLaws
 pub mod Output
 pub mod Laws
 pub mod Examples
+pub mod EventExamples

@@ -11,6 +11,7 @@ use Rattle.edit_base.specs.declared.verdicts.Refusal.TheVariants.{Depth, Budget}
 use Rattle.edit_model.specs.declared.entries.LogEntry.{LogEntry}
 use Rattle.edit_model.specs.declared.entries.LogEntry.TheVariants as entry
 use Rattle.edit_model.specs.declared.events.TextEvent.{TextEvent}
+use Rattle.edit_model.specs.declared.events.SpanEvent.{SpanEvent}
 use Rattle.edit_model.specs.declared.filters.Filter.{Filter}
 use Rattle.edit_model.specs.declared.items.Item.{Item}
 use Rattle.edit_model.specs.declared.items.Item.TheVariants as item
@@ -21,8 +22,8 @@ use Rattle.edit_model.specs.Verdicts.{judged}
 use Rattle.edit_model.specs.Filtered.{filtered_step}
 use Rattle.edit_model.specs.Changed.{Effect, change_of, stepped, on_done}
 use Rattle.edit_model.specs.Log.{logged, entry_of}
-use Rattle.edit_model.specs.Minds.{Mind, blank_mind, answer_after, mind_before, mind_changed, mind_after}
-use Rattle.edit_model.specs.Events.{listeners, text_event}
+use Rattle.edit_model.specs.Minds.{Mind, blank_mind, answer_after, answer_span, mind_before, mind_changed, mind_after, mind_span}
+use Rattle.edit_model.specs.Events.{listeners, text_event, span_callbacks}
 
 -- ---- what the machine works on
 
@@ -50,6 +51,7 @@ pub data Task : Type 0 where
   tell_before : ℕ → TextEvent → Task
   tell_changed : ℕ → TextEvent → Task
   tell_after : ℕ → TextEvent → Task
+  tell_span : ℕ → SpanEvent → Task
 
 pub record Config : Type 0 where
   pub scene : Scene
@@ -112,13 +114,15 @@ verdict_at r depth asked state begun = judged_at state (length r.slots) r.depth 
 unfoldable pub edit_entry : Setup → ℕ → Step → State → ℕ → LogEntry
 edit_entry r depth asked state begun = entry_of depth asked (logged state (as_brought r asked state) (verdict_at r depth asked state begun))
 
--- what an edit that is done sets off: its watchers are told before the change, right after it, and when all were told
+-- what an edit that is done sets off: its watchers are told before the change, right after it, and when all were told; then
+-- those are told who sit over spans that were removed, moved or added
 abbrev pub events : State → ℕ → Step → List Task
 events state depth asked =
     map (λ slot. tell_before slot (text_event depth asked)) (listeners state asked)
     ++ make_change asked
     ∷ (map (λ slot. tell_changed slot (text_event depth asked)) (listeners state asked)
-    ++ map (λ slot. tell_after slot (text_event depth asked)) (listeners state asked))
+    ++ (map (λ slot. tell_after slot (text_event depth asked)) (listeners state asked)
+    ++ map (λ told. tell_span told.slot told.event) (span_callbacks state depth asked)))
 
 -- nothing, where it isn't done
 abbrev pub sets_off : Setup → ℕ → Step → State → ℕ → List Task
@@ -179,6 +183,9 @@ task_done r (tell_changed slot event) s rest =
 task_done r (tell_after slot event) s rest =
     at (with_callback r slot (entry.After slot event) (mind_after (mind_in r slot s) event s.state.units) s)
     (rest_of (answer_after (mind_in r slot s) event s.state.units) (event.depth + 1) ++ rest)
+task_done r (tell_span slot event) s rest =
+    at (with_callback r slot (entry.Span slot event) (mind_span (mind_in r slot s) event s.state.units) s)
+    (rest_of (answer_span (mind_in r slot s) event s.state.units) (event.depth + 1) ++ rest)
 
 -- one step: the first task, where there is one
 abbrev pub first_done : Setup → Scene → List Task → Config

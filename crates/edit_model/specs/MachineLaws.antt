@@ -4,7 +4,7 @@ use Rattle.edit_base.specs.declared.edits.Edit.{Edit}
 use Rattle.edit_base.specs.declared.verdicts.Verdict.TheVariants.{Done}
 use Rattle.edit_model.specs.declared.entries.LogEntry.{LogEntry}
 use Rattle.edit_model.specs.declared.items.Item.{Item}
-use Rattle.edit_model.specs.Machine.{Setup, Scene, Task, Config, at, run_item, do_rest, rest_of, asked_by, resolved, verdict_at, edit_entry, step, Ends}
+use Rattle.edit_model.specs.Machine.{Setup, Scene, Task, at, do_rest, rest_of, asked_by, resolved, verdict_at, edit_entry, step, Ends}
 use Rattle.edit_model.specs.Outcome.{outcome}
 
 -- the run of an item ends, from every scene

@@ -1,10 +1,15 @@
 -- What a watcher keeps, what it answers, and what it keeps then.
-use Rattle.std.specs.Prelude.{ℕ, pos, ◌+◌, ◌≤◌, ◌&&◌, ◌==◌, Bool, true, false, not, List, [], ◌∷◌, length, nat_lt, slice_index, Option, None, Some, if◌then◌else◌}
+use Rattle.std.specs.Prelude.{ℕ, pos, ◌+◌, ◌-◌, ◌≤◌, ◌&&◌, ◌==◌, Bool, true, false, not, List, [], ◌∷◌, length, min, max, nat_lt, nat_le, slice_index, Option, None, Some, if◌then◌else◌}
+use Rattle.std.specs.List.{find, range_with_len}
+use Rattle.std.specs.Option.{option_map_or}
 use Rattle.edit_base.specs.declared.bounds.TheConstants.Limits.{TEXT}
 use Rattle.edit_base.specs.declared.edits.Edit.{Edit}
-use Rattle.edit_base.specs.declared.edits.Edit.TheVariants.{Replace}
+use Rattle.edit_base.specs.declared.edits.Edit.TheVariants.{Replace, SetSpan, RemoveSpan}
+use Rattle.edit_base.specs.declared.kinds.What.TheVariants.{Tag, Face}
 use Rattle.edit_model.specs.declared.events.TextEvent.{TextEvent}
 use Rattle.edit_model.specs.declared.events.SpanEvent.{SpanEvent}
+use Rattle.edit_model.specs.declared.events.SpanChange.{SpanChange}
+use Rattle.edit_model.specs.declared.events.SpanChange.TheVariants.{Added, Moved, Removed}
 
 -- a kind, whether it was loaded, the numbers it was loaded with, how often it was called, and the place it keeps
 pub record Mind : Type 0 where
@@ -25,6 +30,10 @@ pub record Said : Type 0 where
 abbrev pub says_nothing : Mind → Said
 says_nothing mind = record { edits = []; keeps = mind.place }
 
+-- these edits, and the place stays
+abbrev pub says : (Mind → TextEvent → List ℕ → List Edit) → Mind → TextEvent → List ℕ → Said
+says edits mind event units = record { edits = edits mind event units; keeps = mind.place }
+
 -- what the first line says whose test holds, and else this
 abbrev pub first_said : List (Bool × Said) → Said → Said
 first_said [] other = other
@@ -34,9 +43,21 @@ first_said (line ∷ lines) other = if line.0 then line.1 else first_said lines 
 abbrev pub replaces : ℕ → ℕ → List ℕ → List Edit
 replaces start end units = Replace (pos start) (pos end) (record { items = units }) ∷ []
 
--- some units came at the event's place, and none went
-abbrev pub is_insertion : TextEvent → Bool
-is_insertion event = event.before == 0 && nat_lt 0 event.after
+-- the edit that a place asks for, where there is one
+abbrev pub edit_at : (ℕ → List Edit) → Option ℕ → List Edit
+edit_at edits at = option_map_or edits at []
+
+-- the least place from one on, before another, that passes a test
+abbrev pub first_place : (ℕ → Bool) → ℕ → ℕ → Option ℕ
+first_place test from to = find test (range_with_len from (to - from))
+
+-- where the units that came end, or where the text does
+abbrev pub end_of : TextEvent → List ℕ → ℕ
+end_of event units = min (event.start + event.after) (length units)
+
+-- units came, and the first of them stands in the text
+abbrev pub has_come : TextEvent → List ℕ → Bool
+has_come event units = nat_lt 0 event.after && nat_lt event.start (length units)
 
 -- the unit at a place of the text is this one
 abbrev pub has_unit : List ℕ → ℕ → ℕ → Bool
@@ -55,6 +76,24 @@ no_numbers numbers = length numbers == 0
 abbrev pub two_units : List ℕ → Bool
 two_units numbers =
     length numbers == 2 && is_unit (slice_index numbers 0) && is_unit (slice_index numbers 1)
+    && not (slice_index numbers 0 == slice_index numbers 1)
+
+-- one length of a text
+abbrev pub one_length : List ℕ → Bool
+one_length numbers = length numbers == 1 && nat_le (slice_index numbers 0) TEXT
+
+-- a number that is the id of no kept span
+abbrev pub is_id : ℕ → Bool
+is_id number = nat_le 3 number
+
+-- an id and a face
+abbrev pub id_and_face : List ℕ → Bool
+id_and_face numbers = length numbers == 2 && is_id (slice_index numbers 0) && nat_le (slice_index numbers 1) 255
+
+-- two ids that differ
+abbrev pub two_ids : List ℕ → Bool
+two_ids numbers =
+    length numbers == 2 && is_id (slice_index numbers 0) && is_id (slice_index numbers 1)
     && not (slice_index numbers 0 == slice_index numbers 1)
 
 -- ---- the kinds
@@ -115,11 +154,73 @@ pair_lines mind event units =
 abbrev pub pair : Rules
 pair = record { fits = two_units; after = λ mind event units. first_said (pair_lines mind event units) (says_nothing mind); span = no_answer }
 
+-- ---- swap: has one unit stand for another
+
+-- the first unit to be swapped among those that came becomes the other
+abbrev pub swap_edits : Mind → TextEvent → List ℕ → List Edit
+swap_edits mind event units =
+    edit_at (λ at. replaces at (at + 1) (slice_index mind.numbers 1 ∷ []))
+    (first_place (λ at. slice_index units at == slice_index mind.numbers 0) event.start (end_of event units))
+
+abbrev pub swap : Rules
+swap = record { fits = two_units; after = says swap_edits; span = no_answer }
+
+-- ---- limit: keeps the text to a length
+
+-- the units behind the length go
+abbrev pub limit_edits : Mind → TextEvent → List ℕ → List Edit
+limit_edits mind event units =
+    if nat_lt (slice_index mind.numbers 0) (length units) then replaces (slice_index mind.numbers 0) (length units) [] else []
+
+abbrev pub limit : Rules
+limit = record { fits = one_length; after = says limit_edits; span = no_answer }
+
+-- ---- squeeze: leaves one space of many
+
+-- two spaces stand here, one behind the other
+abbrev pub has_spaces : List ℕ → ℕ → Bool
+has_spaces units at = has_unit units at 32 && has_unit units (at + 1) 32
+
+-- the second of the first two spaces that stand together goes, from the unit before those that came to the last of them
+abbrev pub squeeze_edits : Mind → TextEvent → List ℕ → List Edit
+squeeze_edits mind event units =
+    edit_at (λ at. replaces (at + 1) (at + 2) []) (first_place (has_spaces units) (max event.start 1 - 1) (event.start + event.after))
+
+abbrev pub squeeze : Rules
+squeeze = record { fits = no_numbers; after = says squeeze_edits; span = no_answer }
+
+-- ---- paint: gives what comes a face
+
+-- a span of the face comes over the units that came
+abbrev pub paint_edits : Mind → TextEvent → List ℕ → List Edit
+paint_edits mind event units =
+    if has_come event units
+    then SetSpan (slice_index mind.numbers 0) (pos event.start) (pos (end_of event units)) 33 (Face (slice_index mind.numbers 1)) ∷ []
+    else []
+
+abbrev pub paint : Rules
+paint = record { fits = id_and_face; after = says paint_edits; span = no_answer }
+
+-- ---- follow: has one span stand where another stands
+
+-- the target comes or goes as the followed span does
+abbrev pub follow_change : SpanChange → ℕ → SpanEvent → List Edit
+follow_change Added target event = SetSpan target (pos event.start) (pos event.end) 34 (Tag 0) ∷ []
+follow_change Moved target event = SetSpan target (pos event.start) (pos event.end) 34 (Tag 0) ∷ []
+follow_change Removed target event = RemoveSpan target ∷ []
+
+abbrev pub follow_edits : Mind → SpanEvent → List ℕ → List Edit
+follow_edits mind event units =
+    if event.id == slice_index mind.numbers 0 then follow_change event.change (slice_index mind.numbers 1) event else []
+
+abbrev pub follow : Rules
+follow = record { fits = two_ids; after = λ mind event units. says_nothing mind; span = follow_edits }
+
 -- ---- echo: says again what is said
 
--- the first unit that came stands in the text
+-- units came where none went, and the first of them stands in the text
 abbrev pub is_heard : TextEvent → List ℕ → Bool
-is_heard event units = is_insertion event && nat_lt event.start (length units)
+is_heard event units = event.before == 0 && has_come event units
 
 -- the first unit of an insertion comes once more, before it
 abbrev pub echo_lines : Mind → TextEvent → List ℕ → List (Bool × Said)
@@ -142,6 +243,11 @@ abbrev pub kinds : List (ℕ × Rules)
 kinds =
     (0, note)
     ∷ (1, pair)
+    ∷ (2, swap)
+    ∷ (3, limit)
+    ∷ (4, squeeze)
+    ∷ (5, paint)
+    ∷ (6, follow)
     ∷ (7, echo)
     ∷ []
 

@@ -3,22 +3,23 @@ use Rattle.std.specs.Prelude.{ℕ, zero, suc, ◌+◌, List, [], ◌∷◌, if�
 use Rattle.edit_base.specs.declared.edits.Edit.{Edit}
 use Rattle.edit_model.specs.declared.entries.LogEntry.TheVariants as entry
 use Rattle.edit_model.specs.declared.events.TextEvent.{TextEvent}
+use Rattle.edit_model.specs.declared.events.SpanCallback.{SpanCallback}
 use Rattle.edit_model.specs.declared.items.Item.{Item}
 use Rattle.edit_model.specs.declared.steps.Step.{Step}
 use Rattle.edit_model.specs.State.{State}
 use Rattle.edit_model.specs.Changed.{on_done}
-use Rattle.edit_model.specs.Minds.{answer_after, mind_before, mind_changed, mind_after}
-use Rattle.edit_model.specs.Events.{listeners, text_event}
+use Rattle.edit_model.specs.Minds.{answer_after, answer_span, mind_before, mind_changed, mind_after, mind_span}
+use Rattle.edit_model.specs.Events.{listeners, text_event, span_callbacks}
 use Rattle.edit_model.specs.Machine.{Setup, Scene, asked_by, resolved, is_barred, as_brought, verdict_at, edit_logged, with_one_begun, changed_by, mind_in, with_callback}
 
 -- what the edits of an answer make of a scene
 abbrev pub Answered : Type 0
 Answered = List Edit → Scene → Scene
 
--- the watchers in these slots are told, one after the other
-abbrev pub told_each : (ℕ → Scene → Scene) → List ℕ → Scene → Scene
+-- one is told after the other
+abbrev pub told_each : {X : Type 0} → (X → Scene → Scene) → List X → Scene → Scene
 told_each tell [] s = s
-told_each tell (slot ∷ slots) s = told_each tell slots (tell slot s)
+told_each tell (one ∷ others) s = told_each tell others (tell one s)
 
 abbrev pub before_told : Setup → TextEvent → ℕ → Scene → Scene
 before_told r event slot s = with_callback r slot (entry.Before slot event) (mind_before (mind_in r slot s) event s.state.units) s
@@ -32,13 +33,21 @@ after_told r event answered slot s =
     answered (answer_after (mind_in r slot s) event s.state.units)
     (with_callback r slot (entry.After slot event) (mind_after (mind_in r slot s) event s.state.units) s)
 
--- behind an edit that is done: all are told before it, it is made, all are told right after it, and then each may answer
+-- the same where it is told of a span
+abbrev pub span_told : Setup → Answered → SpanCallback → Scene → Scene
+span_told r answered told s =
+    answered (answer_span (mind_in r told.slot s) told.event s.state.units)
+    (with_callback r told.slot (entry.Span told.slot told.event) (mind_span (mind_in r told.slot s) told.event s.state.units) s)
+
+-- behind an edit that is done: all are told before it, it is made, all are told right after it, and then each may answer; and
+-- then each that is told of a span
 abbrev pub behind_change : Setup → ℕ → Step → Answered → State → Scene → Scene
 behind_change r depth asked answered state s =
-    told_each (after_told r (text_event depth asked) answered) (listeners state asked)
+    told_each (span_told r answered) (span_callbacks state depth asked)
+    (told_each (after_told r (text_event depth asked) answered) (listeners state asked)
     (told_each (changed_told r (text_event depth asked)) (listeners state asked)
     (changed_by asked
-    (told_each (before_told r (text_event depth asked)) (listeners state asked) s)))
+    (told_each (before_told r (text_event depth asked)) (listeners state asked) s))))
 
 -- behind an edit that was judged and logged: where it isn't done, nothing follows
 abbrev pub behind_edit : Setup → ℕ → Step → Answered → Scene → Scene → Scene

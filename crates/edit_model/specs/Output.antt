@@ -6,7 +6,6 @@ use Rattle.edit_model.specs.declared.faults.TraceFault.{TraceFault}
 use Rattle.edit_model.specs.declared.faults.TraceFault.TheVariants as fault
 use Rattle.edit_model.specs.declared.faults.SettingsFault.{SettingsFault}
 use Rattle.edit_model.specs.declared.faults.SettingsFault.TheVariants as wrong
-use Rattle.edit_model.specs.declared.entries.Logged.{Logged}
 use Rattle.edit_model.specs.declared.commands.Command.{Command}
 use Rattle.edit_model.specs.declared.commands.Command.TheVariants as commands
 use Rattle.edit_model.specs.declared.items.Item.{Item}

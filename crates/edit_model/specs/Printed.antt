@@ -10,6 +10,9 @@ use Rattle.edit_model.specs.declared.entries.LogEntry.{LogEntry}
 use Rattle.edit_model.specs.declared.entries.LogEntry.TheVariants as entry
 use Rattle.edit_model.specs.declared.entries.Logged.{Logged}
 use Rattle.edit_model.specs.declared.events.TextEvent.{TextEvent}
+use Rattle.edit_model.specs.declared.events.SpanEvent.{SpanEvent}
+use Rattle.edit_model.specs.declared.events.SpanChange.{SpanChange}
+use Rattle.edit_model.specs.declared.events.SpanChange.TheVariants.{Added, Moved, Removed}
 use Rattle.edit_model.specs.declared.replies.Reply.{Reply}
 use Rattle.edit_model.specs.declared.replies.Reply.TheVariants as reply
 use Rattle.edit_base.specs.declared.kinds.What.{What}
@@ -106,6 +109,27 @@ event_line name slot event =
     name ++ spaced (decimal event.depth) ++ spaced (decimal slot) ++ spaced (decimal event.start) ++ spaced (decimal event.before)
     ++ spaced (decimal event.after) ++ line_end
 
+-- a span's place
+abbrev pub place_text : ℕ → ℕ → List ℕ
+place_text start end = spaced (decimal start) ++ spaced (decimal end)
+
+-- what became of a span: of a moved one the old place comes first
+abbrev pub change_name : SpanChange → List ℕ
+change_name Added = codes "added"
+change_name Moved = codes "moved"
+change_name Removed = codes "removed"
+
+abbrev pub old_place_text : SpanChange → SpanEvent → List ℕ
+old_place_text Added event = []
+old_place_text Moved event = place_text event.old_start event.old_end
+old_place_text Removed event = []
+
+-- a callback of a span: what became of it, its depth and slot, the span's id, its old place where it moved, and its place
+abbrev pub span_event_line : ℕ → SpanEvent → List ℕ
+span_event_line slot event =
+    change_name event.change ++ spaced (decimal event.depth) ++ spaced (decimal slot) ++ spaced (decimal event.id)
+    ++ old_place_text event.change event ++ place_text event.start event.end ++ line_end
+
 abbrev pub entry_line : LogEntry → List ℕ
 entry_line (entry.Replace depth start end units it) =
     codes "edit" ++ spaced (decimal depth) ++ spaced (codes "replace") ++ spaced (signed_decimal start) ++ spaced (signed_decimal end)
@@ -118,6 +142,7 @@ entry_line (entry.Remove depth id it) =
 entry_line (entry.Before slot event) = event_line (codes "before") slot event
 entry_line (entry.Changed slot event) = event_line (codes "changed") slot event
 entry_line (entry.After slot event) = event_line (codes "after") slot event
+entry_line (entry.Span slot event) = span_event_line slot event
 
 -- a verdict, how many spans are found, a place, or how many commands were read
 abbrev pub reply_text : Reply → List ℕ

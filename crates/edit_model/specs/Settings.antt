@@ -187,6 +187,11 @@ abbrev pub watcher_kinds : List (List ℕ × ℕ)
 watcher_kinds =
     (codes "note", 0)
     ∷ (codes "pair", 1)
+    ∷ (codes "swap", 2)
+    ∷ (codes "limit", 3)
+    ∷ (codes "squeeze", 4)
+    ∷ (codes "paint", 5)
+    ∷ (codes "follow", 6)
     ∷ (codes "echo", 7)
     ∷ []
 

@@ -1,6 +1,6 @@
 //! What is logged of a command.
 
-use crate::events::TextEvent;
+use crate::events::{SpanEvent, TextEvent};
 use edit_base::Verdict;
 
 /// A verdict, and the number that is printed behind its name: the present length behind `order`, `beyond` and `below`,
@@ -52,5 +52,10 @@ pub enum LogEntry {
     After {
         slot: u8,
         event: TextEvent,
+    },
+    /// It was told of a span that an edit added, moved or removed, and could answer.
+    Span {
+        slot: u8,
+        event: SpanEvent,
     },
 }

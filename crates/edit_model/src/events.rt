@@ -34,3 +34,10 @@ pub struct SpanEvent {
     pub start: u32,
     pub end: u32,
 }
+
+/// A callback for a span that an edit added, moved or removed: the slot of a watcher that is told, and the event.
+#[derive(Clone, Copy, Debug, PartialEq, Eq)]
+pub struct SpanCallback {
+    pub slot: u8,
+    pub event: SpanEvent,
+}

@@ -1,5 +1,6 @@
 //! Worked examples of the definitions, each the contract of a function that does nothing.
 
+ghost use Rattle.edit_model.specs.EventExamples.{TellsShifts, TellsToTheEnd, TellsOthers, TellsRemoved, TellsGroups, TellsByPriority, TellsSets, TellsOfOneId};
 ghost use Rattle.edit_model.specs.Examples.{ReadsLines, ReadsSpans, FiltersTexts, AttachesSpans, AttachesRegion, PrintsLines};
 
 /// Some lines of a trace, and what they ask for.
@@ -22,4 +23,16 @@ pub fn attaches_spans()
 /// Some lines as they are printed.
 pub fn prints_lines()
     ensures { PrintsLines }
+{}
+
+/// Some edits, and which watchers are told of which spans.
+pub fn tells_spans()
+    ensures shifts { TellsShifts }
+    ensures end { TellsToTheEnd }
+    ensures others { TellsOthers }
+    ensures removed { TellsRemoved }
+    ensures groups { TellsGroups }
+    ensures priority { TellsByPriority }
+    ensures sets { TellsSets }
+    ensures id { TellsOfOneId }
 {}

@@ -20,8 +20,8 @@ mod steps;
 
 pub use commands::Command;
 pub use entries::{LogEntry, Logged};
-pub use events::{SpanChange, SpanEvent, TextEvent};
-pub use examples::{attaches_spans, filters_texts, prints_lines, reads_lines};
+pub use events::{SpanCallback, SpanChange, SpanEvent, TextEvent};
+pub use examples::{attaches_spans, filters_texts, prints_lines, reads_lines, tells_spans};
 pub use faults::{SettingsFault, TraceFault};
 pub use filters::{Filter, UnitRange};
 pub use items::Item;

@@ -1,6 +1,7 @@
 //! What holds of every watcher: each law is the contract of a function that does nothing.
 
-ghost use Rattle.edit_model.specs.MindExamples.{LoadsMinds, PairsUnits, SaysAgain};
+ghost use Rattle.edit_model.specs.MindExamples.{LoadsMinds, LoadsForTexts, LoadsForSpans, PairsUnits, SwapsUnits, KeepsToLength};
+ghost use Rattle.edit_model.specs.MindExamples.{SqueezesSpaces, PaintsUnits, FollowsSpans, SaysAgain};
 ghost use Rattle.edit_model.specs.MindLaws.{AnswersBriefly, AnswersSpansBriefly, CountsAndKeeps, StaysBlank, HasNoOthers};
 
 /// An answer has at most four edits, and each of its replacements brings at most 64 units.
@@ -20,6 +21,13 @@ pub fn minds_keep_their_numbers()
 /// Some loads, answers and minds.
 pub fn answers_events()
     ensures loads { LoadsMinds }
+    ensures loads_for_texts { LoadsForTexts }
+    ensures loads_for_spans { LoadsForSpans }
     ensures pair { PairsUnits }
+    ensures swap { SwapsUnits }
+    ensures limit { KeepsToLength }
+    ensures squeeze { SqueezesSpaces }
+    ensures paint { PaintsUnits }
+    ensures follow { FollowsSpans }
     ensures echo { SaysAgain }
 {}

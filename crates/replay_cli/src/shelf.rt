@@ -9,7 +9,7 @@ use edit_base::NoMemory;
 use replay_io::{Sink, Store};
 use std::alloc::Global;
 use watcher_api::Watcher;
-use watcher_kit::{Echo, Note, Pair};
+use watcher_kit::{Echo, Follow, Limit, Note, Paint, Pair, Squeeze, Swap};
 
 /// Runs the program with a shelf of one blank watcher of each kind that there is, in the order of the kinds.
 pub fn run_on_blank_shelf<S: Store, K: Sink>(
@@ -41,6 +41,11 @@ fn run_on_made_shelf<S: Store, K: Sink>(
     let mut shelf: Vec<Box<dyn Watcher>> = Vec::new(alloc);
     shelf.push(Box::new(alloc, Note::blank())?)?;
     shelf.push(Box::new(alloc, Pair::blank())?)?;
+    shelf.push(Box::new(alloc, Swap::blank())?)?;
+    shelf.push(Box::new(alloc, Limit::blank())?)?;
+    shelf.push(Box::new(alloc, Squeeze::blank())?)?;
+    shelf.push(Box::new(alloc, Paint::blank())?)?;
+    shelf.push(Box::new(alloc, Follow::blank())?)?;
     shelf.push(Box::new(alloc, Echo::blank())?)?;
     Ok(run(alloc, words, store, sink, &mut shelf))
 }

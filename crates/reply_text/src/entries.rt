@@ -1,15 +1,16 @@
-//! The lines of what is logged of a command: its header, its edits, and the callbacks of watchers.
+//! The lines of what is logged of a command: its header and its edits. Those of callbacks are made by callbacks.rt.
 #![tactic(auto, using(crate::proofs::Appending::appending))]
 
 ghost use Rattle.std.specs.Prelude.{◌≡◌, ◌++◌, OnOk, OnErr, codes, decimal};
 ghost use Rattle.std.specs.Fmt.{signed_decimal};
-ghost use Rattle.edit_model.specs.Printed.{spaced, line_end, header_line, entry_line, event_line};
+ghost use Rattle.edit_model.specs.Printed.{spaced, header_line, entry_line};
 ghost use Rattle.reply_text.specs.Appended.{Extends};
 
+use crate::callbacks::{push_event, push_span_event};
 use crate::verdicts::push_numbered_ending;
 use crate::words::{push, push_number, push_signed, push_word};
 use edit_base::NoMemory;
-use edit_model::{LogEntry, Logged, TextEvent};
+use edit_model::{LogEntry, Logged};
 
 /// Appends the first line of the command on a trace line: the line's number, and the operation's name. Without memory
 /// a part of the line may stand in `out`.
@@ -48,6 +49,7 @@ pub fn print_entry(entry: &LogEntry, out: &mut Vec<u8>) -> Result<(), NoMemory>
         LogEntry::Before { slot, event } => push_event("before", *slot, event, out),
         LogEntry::Changed { slot, event } => push_event("changed", *slot, event, out),
         LogEntry::After { slot, event } => push_event("after", *slot, event, out),
+        LogEntry::Span { slot, event } => push_span_event(*slot, event, out),
     }
 }
 
@@ -113,27 +115,4 @@ fn push_places(start: i64, end: i64, out: &mut Vec<u8>) -> Result<(), NoMemory>
 {
     push_signed(start, out)?;
     push_signed(end, out)
-}
-
-// A callback of a replacement.
-fn push_event(name: &str, slot: u8, event: &TextEvent, out: &mut Vec<u8>) -> Result<(), NoMemory>
-    ensures ok { OnOk result (out.new.items ≡ out.old.items ++ event_line name.now slot event.now) }
-    ensures err { OnErr result (Extends out.old.items out.new.items) }
-{
-    push(name, out)?;
-    push_number(event.depth, out)?;
-    push_number(u32::from(slot), out)?;
-    push_counts(event, out)
-}
-
-// Where a replacement started, and how many units went and came.
-fn push_counts(event: &TextEvent, out: &mut Vec<u8>) -> Result<(), NoMemory>
-    ensures ok { OnOk result (out.new.items ≡ out.old.items ++ (spaced (decimal event.now.start)
-        ++ spaced (decimal event.now.before) ++ spaced (decimal event.now.after) ++ line_end)) }
-    ensures err { OnErr result (Extends out.old.items out.new.items) }
-{
-    push_number(event.start, out)?;
-    push_number(event.before, out)?;
-    push_number(event.after, out)?;
-    push("\n", out)
 }

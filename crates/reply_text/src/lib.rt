@@ -2,6 +2,7 @@
 //! what was there is still their prefix, behind which a part of the line may stand.
 #![tactic(auto)]
 
+mod callbacks;
 mod entries;
 mod replies;
 mod spans;

@@ -2,7 +2,7 @@
 
 use crate::{print_entry, print_header, print_reply, print_span, print_units};
 use edit_base::{Refusal, SpanRow, Verdict, What};
-use edit_model::{LogEntry, Logged, Reply, TextEvent};
+use edit_model::{LogEntry, Logged, Reply, SpanChange, SpanEvent, TextEvent};
 use std::test::Fail;
 
 // Replacements of the units from a start to an end by so many, each with its verdict and the number behind that.
@@ -105,6 +105,30 @@ const PRINTED_SPANS: &str = "span 6 3 5 65569 tag 2\n\
     span 0 7 7 34 sel-start\n\
     span 2 0 1 33 composing\n";
 
+// Callbacks of spans: slot, depth, id and what became of it, its old place, and its place.
+const SPAN_EVENTS: [(u8, u32, u32, SpanChange, (u32, u32), (u32, u32)); 6] = [
+    (1, 0, 10, SpanChange::Moved, (0, 0), (0, 1)),
+    (0, 0, 11, SpanChange::Moved, (0, 0), (0, 1)),
+    (0, 1, 20, SpanChange::Added, (0, 2), (0, 2)),
+    (0, 0, 5, SpanChange::Removed, (1, 4), (1, 4)),
+    (
+        255,
+        8,
+        4_294_967_295,
+        SpanChange::Moved,
+        (1_048_575, 1_048_576),
+        (3, 4),
+    ),
+    (7, 2, 2, SpanChange::Moved, (6, 9), (6, 9)),
+];
+
+const PRINTED_SPAN_EVENTS: &str = "moved 0 1 10 0 0 0 1\n\
+    moved 0 0 11 0 0 0 1\n\
+    added 1 0 20 0 2\n\
+    removed 0 0 5 1 4\n\
+    moved 8 255 4294967295 1048575 1048576 3 4\n\
+    moved 2 7 2 6 9 6 9\n";
+
 #[test]
 fn prints_replacements(rt: HostRuntime) -> Result<(), Fail> {
     let mut out = Vec::new(rt.alloc());
@@ -175,6 +199,25 @@ fn prints_callbacks(rt: HostRuntime) -> Result<(), Fail> {
         changed 8 255 1048576 3 0\n\
         after 8 7 1048576 3 0\n";
     assert_eq!(rt; out.as_slice(), want.as_bytes());
+    Ok(())
+}
+
+#[test]
+fn prints_span_events(rt: HostRuntime) -> Result<(), Fail> {
+    let mut out = Vec::new(rt.alloc());
+    for (slot, depth, id, change, old, new) in SPAN_EVENTS {
+        let event = SpanEvent {
+            depth,
+            id,
+            change,
+            old_start: old.0,
+            old_end: old.1,
+            start: new.0,
+            end: new.1,
+        };
+        print_entry(&LogEntry::Span { slot, event }, &mut out)?;
+    }
+    assert_eq!(rt; out.as_slice(), PRINTED_SPAN_EVENTS.as_bytes());
     Ok(())
 }
 

@@ -76,6 +76,11 @@ fn kind_named(name: &str) -> Result<u32, SettingsFault>
     match name {
         "note" => Ok(0),
         "pair" => Ok(1),
+        "swap" => Ok(2),
+        "limit" => Ok(3),
+        "squeeze" => Ok(4),
+        "paint" => Ok(5),
+        "follow" => Ok(6),
         "echo" => Ok(7),
         _ => Err(SettingsFault::Value),
     }

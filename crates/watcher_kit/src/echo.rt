@@ -4,6 +4,7 @@ ghost use Rattle.std.specs.Prelude.{[]};
 
 use crate::answers::insert;
 use crate::kinds::Kind;
+use crate::numbers::no_numbers;
 use crate::text::Text;
 use crate::watching::Watching;
 use edit_model::{SpanEvent, TextEvent};
@@ -24,11 +25,7 @@ impl Kind for EchoKind {
     const NUMBER: u32 = 7;
 
     fn read(numbers: &[u32]) -> Option<Self> {
-        if numbers.is_empty() {
-            Some(EchoKind)
-        } else {
-            None
-        }
+        no_numbers(numbers, EchoKind)
     }
 
     fn after(&self, _place: &mut Option<u32>, e: &TextEvent, text: &Text) -> Answer {

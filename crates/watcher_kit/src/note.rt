@@ -3,6 +3,7 @@
 ghost use Rattle.std.specs.Prelude.{[]};
 
 use crate::kinds::Kind;
+use crate::numbers::no_numbers;
 use crate::text::Text;
 use crate::watching::Watching;
 use edit_model::{SpanEvent, TextEvent};
@@ -23,11 +24,7 @@ impl Kind for NoteKind {
     const NUMBER: u32 = 0;
 
     fn read(numbers: &[u32]) -> Option<Self> {
-        if numbers.is_empty() {
-            Some(NoteKind)
-        } else {
-            None
-        }
+        no_numbers(numbers, NoteKind)
     }
 
     fn after(&self, _place: &mut Option<u32>, _e: &TextEvent, _text: &Text) -> Answer {

@@ -1,6 +1,6 @@
 //! The text that a watcher is shown.
 
-ghost use Rattle.std.specs.Prelude.{◌≡◌, ◌≤◌, ◌<◌, ◌++◌, length, slice_index};
+ghost use Rattle.std.specs.Prelude.{ℕ, ◌≡◌, ◌≤◌, ◌<◌, ◌++◌, Bool, length, min, slice_index, IfSome};
 ghost use Rattle.edit_base.specs.declared.bounds.TheConstants.Limits.{TEXT};
 
 // The units of `left`, and behind them those of `right`.
@@ -12,7 +12,7 @@ pub struct Text<'a> {
 }
 
 impl<'a> Text<'a> {
-    ghost use Rattle.edit_model.specs.Minds.{has_unit};
+    ghost use Rattle.edit_model.specs.Minds.{has_unit, first_place};
     ghost use Rattle.watcher_kit.specs.Texts.{joined};
 
     /// How many units there are.
@@ -40,5 +40,21 @@ impl<'a> Text<'a> {
         ensures { result ≡ has_unit (joined self.now) at unit }
     {
         at < self.len() && self.unit(at) == unit
+    }
+
+    /// The least place from one on, before another and before the end of the text, that passes a test.
+    pub fn first<F: Fn(u32) -> bool>(&self, from: u32, to: u32, test: F) -> Option<u32>
+        requires { (at : ℕ) → at < length (joined self.now) → F.pre test at }
+        ensures within { IfSome result (λ at. at < length (joined self.now)) }
+        ensures first { (passes : ℕ → Bool)
+            → ((at : ℕ) (is : Bool) → at < length (joined self.now) → F.post test at is → is ≡ passes at)
+            → result ≡ first_place passes from (min to (length (joined self.now))) }
+    {
+        for at in from..to.min(self.len()) {
+            if test(at) {
+                return Some(at);
+            }
+        }
+        None
     }
 }

@@ -6,18 +6,19 @@ use Rattle.edit_base.specs.declared.verdicts.Verdict.{Verdict}
 use Rattle.edit_base.specs.declared.verdicts.Verdict.TheVariants.{Done}
 use Rattle.edit_model.specs.declared.entries.LogEntry.{LogEntry}
 use Rattle.edit_model.specs.declared.events.TextEvent.{TextEvent}
+use Rattle.edit_model.specs.declared.events.SpanCallback.{SpanCallback}
 use Rattle.edit_model.specs.declared.items.Item.{Item}
 use Rattle.edit_model.specs.declared.steps.Step.{Step}
 use Rattle.edit_model.specs.State.{State}
 use Rattle.edit_model.specs.Verdicts.{judged}
 use Rattle.edit_model.specs.Changed.{Effect, change_of, stepped, on_done}
 use Rattle.edit_model.specs.Minds.{Mind}
-use Rattle.edit_model.specs.Events.{listeners, text_event}
-use Rattle.edit_model.specs.Machine.{Setup, Scene, Task, at, Leads, Passes, run_item, do_rest, make_change, tell_before, tell_changed, tell_after, rest_of, asked_by, resolved, is_barred, judged_at, as_brought, edit_entry, events, sets_off, answer_begun, edit_logged}
+use Rattle.edit_model.specs.Events.{listeners, text_event, span_callbacks}
+use Rattle.edit_model.specs.Machine.{Setup, Scene, Task, at, Leads, Passes, run_item, do_rest, make_change, tell_before, tell_changed, tell_after, rest_of, asked_by, resolved, is_barred, as_brought, edit_entry, events, sets_off, answer_begun, edit_logged}
 use Rattle.edit_model.proofs.MachineRuns.{leads_on, leads_behind, leads_then, leads_first, leads_none, nothing_unless_done}
-use Rattle.watcher_rounds.specs.Rounds.{Takes, stands, Tells, Led, Passed, Runs, ComesThrough}
+use Rattle.watcher_rounds.specs.Rounds.{tell_one, Takes, stands, Tells, Led, Passed, Runs, ComesThrough}
 use Rattle.watcher_rounds.proofs.Judgements.{judged-let_in}
-use Rattle.watcher_rounds.proofs.Runs.{passes_on, passes_behind, passes_here, passed_here, passed_behind, passed_told, passed_then}
+use Rattle.watcher_rounds.proofs.Runs.{tells_behind, passes_on, passes_here, passed_here, passed_behind, passed_told, passed_then}
 
 -- ---- a follower's own laws
 
@@ -132,61 +133,94 @@ passed_change r asked state new minds log begun (inr is) =
 
 -- ---- what an edit sets off
 
--- its callbacks with the change among them
-abbrev tasks_for : List ℕ → TextEvent → Step → List Task
-tasks_for slots event asked =
+-- its callbacks of the text with the change among them, and then those of spans
+abbrev tasks_for : List ℕ → TextEvent → Step → List SpanCallback → List Task
+tasks_for slots event asked spans =
     map (λ slot. tell_before slot event) slots
-    ++ make_change asked ∷ (map (λ slot. tell_changed slot event) slots ++ map (λ slot. tell_after slot event) slots)
+    ++ make_change asked
+    ∷ (map (λ slot. tell_changed slot event) slots
+    ++ (map (λ slot. tell_after slot event) slots ++ map tell_one spans))
 
 -- what the machine says an edit sets off that is done
-pub record SetsOff (slots : List ℕ) (event : TextEvent) (asked : Step) (tasks : List Task) : Type 0 where
-  pub same : tasks_for slots event asked ≡ tasks
+pub record SetsOff (slots : List ℕ) (event : TextEvent) (asked : Step) (spans : List SpanCallback) (tasks : List Task) : Type 0 where
+  pub same : tasks_for slots event asked spans ≡ tasks
 
-pub sets_off_done : (state : State) (depth : ℕ) (asked : Step) (verdict : Verdict) (slots : List ℕ) (event : TextEvent) → verdict ≡ Done
-    → slots ≡ listeners state asked → event ≡ text_event depth asked → SetsOff slots event asked (on_done verdict (events state depth asked) [])
-sets_off_done state depth asked verdict slots event done told is = record {
-  same = ap (λ (ks : List ℕ). tasks_for ks event asked) told
-      ∙ (ap (λ (e : TextEvent). tasks_for (listeners state asked) e asked) is
-      ∙ ap (λ (v : Verdict). on_done v (events state depth asked) []) (sym done));
+pub sets_off_done : (state : State) (depth : ℕ) (asked : Step) (verdict : Verdict) (slots : List ℕ) (event : TextEvent) (spans : List SpanCallback)
+    → verdict ≡ Done → slots ≡ listeners state asked → event ≡ text_event depth asked → spans ≡ span_callbacks state depth asked
+    → SetsOff slots event asked spans (on_done verdict (events state depth asked) [])
+sets_off_done state depth asked verdict slots event spans done told is of_spans = record {
+  same = ap (λ (ks : List ℕ). tasks_for ks event asked spans) told
+      ∙ (ap (λ (e : TextEvent). tasks_for (listeners state asked) e asked spans) is
+      ∙ (ap (λ (cs : List SpanCallback). tasks_for (listeners state asked) (text_event depth asked) asked cs) of_spans
+      ∙ ap (λ (v : Verdict). on_done v (events state depth asked) []) (sym done)));
 }
 
+-- who may answer once it was told and made
+abbrev pub to_ask : List ℕ → TextEvent → List SpanCallback → List Task
+to_ask slots event spans = map (λ slot. tell_after slot event) slots ++ map tell_one spans
+
 -- each part leads on from the one before it
-pub led_set_off : {F : Type 0} {takes : Takes F} → AreLaws takes
-    → {r : Setup} {tasks : List Task} {a b c d e : List Effect → Scene} {x y z : F} {slots : List ℕ}
-    {event : TextEvent} {asked : Step} → SetsOff slots event asked tasks → Tells r (map (λ slot. tell_before slot event) slots) [] a b
+pub led_carried : {F : Type 0} {takes : Takes F} {r : Setup} {tasks : List Task} {a b c d : List Effect → Scene} {x y : F} {slots : List ℕ}
+    {event : TextEvent} {asked : Step} {spans : List SpanCallback} (told : List ℕ) → slots ≡ told → SetsOff slots event asked spans tasks
+    → Tells r (map (λ slot. tell_before slot event) slots) [] a b
     → Led takes r (make_change asked ∷ []) [] b c x y → Tells r (map (λ slot. tell_changed slot event) slots) [] c d
-    → Led takes r (map (λ slot. tell_after slot event) slots) [] d e y z → Led takes r tasks [] a e x z
-led_set_off {takes = takes} laws {r = r} {a = a} {e = e} {x = x} {z = z} sets before change changed after =
-    subst (λ (ts : List Task). Led takes r ts [] a e x z) sets.same (told_then_led before (led_then laws change (told_then_led changed after)))
+    → Led takes r tasks (to_ask told event spans) a d x y
+led_carried {takes = takes} {r = r} {tasks = tasks} {a = a} {d = d} {x = x} {y = y} {slots = slots} {event = event} {spans = spans} told same sets
+    before change changed =
+    subst (λ (ks : List ℕ). Led takes r tasks (to_ask ks event spans) a d x y) same
+    (subst (λ (ts : List Task). Led takes r ts (to_ask slots event spans) a d x y) sets.same
+    (told_then_led before (led_then_told change (tells_behind (to_ask slots event spans) changed))))
 
--- an early end among the first callbacks, at the change, among the second callbacks, among the last
-pub passed_before : {r : Setup} {tasks : List Task} {a b : List Effect → Scene} {slots : List ℕ} {event : TextEvent} {asked : Step}
-    → SetsOff slots event asked tasks → Passed r (map (λ slot. tell_before slot event) slots) a b → Passed r tasks a b
-passed_before {r = r} {a = a} {b = b} {slots = slots} {event = event} {asked = asked} sets before =
-    subst (λ (ts : List Task). Passed r ts a b) sets.same
-    (passed_behind (make_change asked ∷ (map (λ slot. tell_changed slot event) slots ++ map (λ slot. tell_after slot event) slots)) before)
+-- an early end among the first callbacks, at the change, among the second callbacks
+pub passed_before : {r : Setup} {a b : List Effect → Scene} (state : State) (depth : ℕ) (asked : Step) (slots : List ℕ) (event : TextEvent)
+    (verdict : Verdict) → verdict ≡ Done → slots ≡ listeners state asked → event ≡ text_event depth asked
+    → Passed r (map (λ slot. tell_before slot event) slots) a b → Passed r (on_done verdict (events state depth asked) []) a b
+passed_before {r = r} {a = a} {b = b} state depth asked slots event verdict done told is before =
+    let spans = span_callbacks state depth asked in
+    subst (λ (ts : List Task). Passed r ts a b) (sets_off_done state depth asked verdict slots event spans done told is refl).same
+    (passed_behind (make_change asked ∷ (map (λ slot. tell_changed slot event) slots ++ to_ask slots event spans)) before)
 
-pub passed_at_change : {r : Setup} {tasks : List Task} {a b c : List Effect → Scene} {slots : List ℕ} {event : TextEvent} {asked : Step}
-    → SetsOff slots event asked tasks → Tells r (map (λ slot. tell_before slot event) slots) [] a b → Passed r (make_change asked ∷ []) b c → Passed r tasks a c
-passed_at_change {r = r} {a = a} {c = c} {slots = slots} {event = event} sets before change =
-    subst (λ (ts : List Task). Passed r ts a c) sets.same
-    (passed_then before (passed_behind (map (λ slot. tell_changed slot event) slots ++ map (λ slot. tell_after slot event) slots) change))
+pub passed_at_change : {r : Setup} {a b c : List Effect → Scene} (state : State) (depth : ℕ) (asked : Step) (slots : List ℕ) (event : TextEvent)
+    (verdict : Verdict) → verdict ≡ Done → slots ≡ listeners state asked → event ≡ text_event depth asked
+    → Tells r (map (λ slot. tell_before slot event) slots) [] a b → Passed r (make_change asked ∷ []) b c
+    → Passed r (on_done verdict (events state depth asked) []) a c
+passed_at_change {r = r} {a = a} {c = c} state depth asked slots event verdict done told is before change =
+    let spans = span_callbacks state depth asked in
+    subst (λ (ts : List Task). Passed r ts a c) (sets_off_done state depth asked verdict slots event spans done told is refl).same
+    (passed_then before (passed_behind (map (λ slot. tell_changed slot event) slots ++ to_ask slots event spans) change))
 
-pub passed_changed : {F : Type 0} {takes : Takes F} {r : Setup} {tasks : List Task} {a b c d : List Effect → Scene} {x y : F} {slots : List ℕ}
-    {event : TextEvent}
-    {asked : Step} → SetsOff slots event asked tasks → Tells r (map (λ slot. tell_before slot event) slots) [] a b
-    → Led takes r (make_change asked ∷ []) [] b c x y → Passed r (map (λ slot. tell_changed slot event) slots) c d → Passed r tasks a d
-passed_changed {r = r} {a = a} {d = d} {slots = slots} {event = event} sets before change changed =
-    subst (λ (ts : List Task). Passed r ts a d) sets.same
-    (passed_then before (passed_led_then change (passed_behind (map (λ slot. tell_after slot event) slots) changed)))
+pub passed_changed : {F : Type 0} {takes : Takes F} {r : Setup} {a b c d : List Effect → Scene} {x y : F} (state : State) (depth : ℕ) (asked : Step)
+    (slots : List ℕ) (event : TextEvent) (verdict : Verdict) → verdict ≡ Done → slots ≡ listeners state asked → event ≡ text_event depth asked
+    → Tells r (map (λ slot. tell_before slot event) slots) [] a b → Led takes r (make_change asked ∷ []) [] b c x y
+    → Passed r (map (λ slot. tell_changed slot event) slots) c d → Passed r (on_done verdict (events state depth asked) []) a d
+passed_changed {r = r} {a = a} {d = d} state depth asked slots event verdict done told is before change changed =
+    let spans = span_callbacks state depth asked in
+    subst (λ (ts : List Task). Passed r ts a d) (sets_off_done state depth asked verdict slots event spans done told is refl).same
+    (passed_then before (passed_led_then change (passed_behind (to_ask slots event spans) changed)))
 
-pub passed_after : {F : Type 0} {takes : Takes F} {r : Setup} {tasks : List Task} {a b c d e : List Effect → Scene} {x y : F} {slots : List ℕ}
-    {event : TextEvent}
-    {asked : Step} → SetsOff slots event asked tasks → Tells r (map (λ slot. tell_before slot event) slots) [] a b
-    → Led takes r (make_change asked ∷ []) [] b c x y → Tells r (map (λ slot. tell_changed slot event) slots) [] c d
-    → Passed r (map (λ slot. tell_after slot event) slots) d e → Passed r tasks a e
-passed_after {r = r} {a = a} {e = e} sets before change changed after =
-    subst (λ (ts : List Task). Passed r ts a e) sets.same (passed_then before (passed_led_then change (passed_then changed after)))
+-- those who may answer are asked, about the text and then about spans
+pub led_asked : {F : Type 0} {takes : Takes F} → AreLaws takes → {r : Setup} {tasks : List Task} {a b c d : List Effect → Scene} {x y z w : F}
+    (slots asked : List ℕ) (event : TextEvent) (spans of_spans : List SpanCallback) → asked ≡ slots → of_spans ≡ spans
+    → Led takes r tasks (to_ask slots event spans) a b x y → Led takes r (map (λ slot. tell_after slot event) asked) [] b c y z
+    → Led takes r (map tell_one of_spans) [] c d z w → Led takes r tasks [] a d x w
+led_asked {takes = takes} laws {r = r} {b = b} {c = c} {d = d} {y = y} {z = z} {w = w} slots asked event spans of_spans same same_spans led after last =
+    led_on laws led (led_then laws (subst (λ (ks : List ℕ). Led takes r (map (λ slot. tell_after slot event) ks) [] b c y z) same after)
+    (subst (λ (cs : List SpanCallback). Led takes r (map tell_one cs) [] c d z w) same_spans last))
+
+-- an early end among those who are asked about the text, among those who are asked about spans
+pub passed_asked : {F : Type 0} {takes : Takes F} {r : Setup} {tasks : List Task} {a b c : List Effect → Scene} {x y : F}
+    (slots asked : List ℕ) (event : TextEvent) (spans : List SpanCallback) → asked ≡ slots
+    → Led takes r tasks (to_ask slots event spans) a b x y → Passed r (map (λ slot. tell_after slot event) asked) b c → Passed r tasks a c
+passed_asked {r = r} {b = b} {c = c} slots asked event spans same led after =
+    passed_led led (passed_behind (map tell_one spans) (subst (λ (ks : List ℕ). Passed r (map (λ slot. tell_after slot event) ks) b c) same after))
+
+pub passed_of_spans : {F : Type 0} {takes : Takes F} {r : Setup} {tasks : List Task} {a b c d : List Effect → Scene} {x y z w : F}
+    (slots asked : List ℕ) (event : TextEvent) (spans of_spans : List SpanCallback) → asked ≡ slots → of_spans ≡ spans
+    → Led takes r tasks (to_ask slots event spans) a b x y → Led takes r (map (λ slot. tell_after slot event) asked) [] b c z w
+    → Passed r (map tell_one of_spans) c d → Passed r tasks a d
+passed_of_spans {takes = takes} {r = r} {b = b} {c = c} {d = d} {z = z} {w = w} slots asked event spans of_spans same same_spans led after last =
+    passed_led led (passed_led_then (subst (λ (ks : List ℕ). Led takes r (map (λ slot. tell_after slot event) ks) [] b c z w) same after)
+    (subst (λ (cs : List SpanCallback). Passed r (map tell_one cs) c d) same_spans last))
 
 -- an edit that isn't done sets off nothing
 pub led_undone : {F : Type 0} {takes : Takes F} → AreLaws takes → (r : Setup) (state : State) (depth : ℕ) (asked : Step) (verdict : Verdict)

@@ -1,5 +1,5 @@
 pub mod Judgements
-pub mod Seats
+pub mod Beside
 pub mod Runs
 pub mod Follows
 pub mod Shelves

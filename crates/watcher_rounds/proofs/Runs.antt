@@ -1,13 +1,13 @@
 -- Runs of the agenda machine with the effects of the edits that were done, joined.
-use Rattle.std.proofs.Common.{◌≡◌, ◌<◌, ◌≤◌, ◌∙◌, Result, Ok, Err, OnErr, OnOk, ℕ, ◌+◌, List, [], ◌∷◌, ◌++◌, map, take, drop, length, get_or, refl, sym, ap, subst, append_assoc, append-nil, arith}
+use Rattle.std.proofs.Common.{◌≡◌, ◌<◌, ◌≤◌, ◌∙◌, Result, Ok, Err, OnErr, OnOk, ℕ, ◌+◌, List, [], ◌∷◌, ◌++◌, map, take, drop, length, get_or, sym, ap, subst, append_assoc, append-nil}
 use Rattle.std.proofs.lemmas.List.{map_more, map-append, take_all, take-append-drop}
 use Rattle.edit_model.specs.Changed.{Effect}
 use Rattle.edit_model.specs.Machine.{Setup, Scene, Task, at, Leads, Passes, Reaches}
-use Rattle.edit_model.proofs.MachineRuns.{reaches_none, reaches_on, leads_none, leads_on, leads_behind, leads_then}
+use Rattle.edit_model.proofs.MachineRuns.{reaches_none, reaches_on, leads_none, leads_behind, leads_then}
 use Rattle.edit_model.specs.declared.entries.LogEntry.{LogEntry}
 use Rattle.edit_model.specs.State.{State}
 use Rattle.edit_model.specs.Minds.{Mind}
-use Rattle.watcher_rounds.specs.Rounds.{stands, Tells, Led, Passed}
+use Rattle.watcher_rounds.specs.Rounds.{stands, Tells, Passed}
 
 -- ---- through here
 
@@ -33,6 +33,10 @@ tells_none r tasks old = record { run = λ effects. leads_none r tasks (old effe
 pub tells_then : {r : Setup} {tasks more left : List Task} {a b c : List Effect → Scene} → Tells r tasks [] a b → Tells r more left b c
     → Tells r (tasks ++ more) left a c
 tells_then x y = record { run = λ effects. leads_then (x.run effects) (y.run effects) }
+
+pub tells_behind : {r : Setup} {tasks left : List Task} {a b : List Effect → Scene} (more : List Task) → Tells r tasks left a b
+    → Tells r (tasks ++ more) (left ++ more) a b
+tells_behind more x = record { run = λ effects. leads_behind more (x.run effects) }
 
 -- one more of the tasks that a list gives
 pub tells_more : {X : Type 0} {r : Setup} {a b c : List Effect → Scene} (task : X → Task) (xs : List X) (i : ℕ) (d : X) → i < length xs

@@ -3,13 +3,14 @@ use Rattle.std.specs.Prelude.{ℕ, ◌≤◌, ◌<◌, ◌++◌, List, [], ◌�
 use Rattle.std.specs.List.{All}
 use Rattle.edit_base.specs.declared.bounds.TheConstants.Limits.{NESTED_EDITS}
 use Rattle.edit_model.specs.declared.entries.LogEntry.{LogEntry}
+use Rattle.edit_model.specs.declared.events.SpanCallback.{SpanCallback}
 use Rattle.edit_model.specs.declared.filters.Filter.{Filter}
 use Rattle.edit_model.specs.declared.items.Item.{Item}
 use Rattle.edit_model.specs.State.{State}
 use Rattle.edit_model.specs.WellFormed.{IsSeated}
 use Rattle.edit_model.specs.Changed.{Effect}
 use Rattle.edit_model.specs.Minds.{Mind}
-use Rattle.edit_model.specs.Machine.{Setup, Scene, Task, at, run_item, Reaches, Leads, Passes, Ends}
+use Rattle.edit_model.specs.Machine.{Setup, Scene, Task, at, run_item, tell_span, Reaches, Leads, Passes, Ends}
 use Rattle.watcher_rounds.specs.declared.round.Round.{Round}
 
 -- what the machine is set to
@@ -26,6 +27,10 @@ slot_count round = length round.slots.now.items
 -- what a call leaves, but for the effects of the edits that were done
 abbrev pub stands : State → List Mind → List LogEntry → ℕ → List Effect → Scene
 stands state minds log begun effects = record { state = state; minds = minds; log = log; begun = begun; effects = effects }
+
+-- the callback to a watcher of a span
+abbrev pub tell_one : SpanCallback → Task
+tell_one told = tell_span told.slot told.event
 
 -- ---- what holds between any two steps
 

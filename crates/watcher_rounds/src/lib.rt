@@ -7,7 +7,9 @@ mod judging;
 mod logging;
 mod round;
 mod rounds;
+mod seats;
 mod shelf;
+mod spans;
 mod telling;
 #[cfg(test)]
 mod tests;

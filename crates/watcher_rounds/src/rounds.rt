@@ -7,19 +7,20 @@ ghost use Rattle.edit_model.specs.Verdicts.{judged};
 ghost use Rattle.edit_model.specs.Changed.{on_done};
 ghost use Rattle.edit_model.specs.Minds.{IsTold};
 ghost use Rattle.edit_model.specs.Fitting.{IsFittingStep, IsFittingItem};
-ghost use Rattle.edit_model.specs.Machine.{run_item, do_rest, tell_after, rest_of, resolved, verdict_at, events};
+ghost use Rattle.edit_model.specs.Events.{IsCallback};
+ghost use Rattle.edit_model.specs.Machine.{run_item, do_rest, tell_after, tell_span, rest_of, resolved, verdict_at, events};
 ghost use Rattle.edit_model.specs.WellFormed.{IsSeated};
-ghost use Rattle.watcher_rounds.specs.Rounds.{setup, Runs, ComesThrough, setup_of, slot_count, stands, IsReady, Led, Passed};
+ghost use Rattle.watcher_rounds.specs.Rounds.{setup, tell_one, Runs, ComesThrough, setup_of, slot_count, stands, IsReady, Led, Passed};
 
 use crate::asking::{ask, resolve};
-use crate::changing::change;
+use crate::changing::carry_out;
 use crate::judging::is_barred;
 use crate::logging::{Judged, judge_and_log, log_barred};
 use crate::round::{Log, Round, Slots};
 use crate::shelf::Shelf;
-use crate::telling::{event_of, listeners, tell_after, tell_all_before, tell_all_changed};
+use crate::telling::{tell_after, tell_span};
 use edit_base::{Edit, Limits, NoMemory, Steps, Verdict};
-use edit_model::{Filter, Item, TextEvent};
+use edit_model::{Filter, Item, SpanCallback, TextEvent};
 use replace_engine::{Follower, SpannedText};
 use std::alloc::Global;
 use std::sync::ledger::Ledger;
@@ -148,20 +149,32 @@ fn set_off<S: Shelf, F: Follower, L: Ledger>(
     let Verdict::Done = found.verdict else {
         return Ok(());
     };
-    let event = event_of(&found.brought, depth, round.slots.len() as u8, text);
-    let told = listeners(alloc, &found.brought, text, steps)?;
-    let slots = told.as_slice();
-    tell_all_before(round, slots, &event, text, shelf, log)?;
-    change(
-        &found.brought,
-        round.slots.len() as u8,
+    let told = carry_out(
+        alloc, round, found, depth, text, shelf, follower, *spent, log, steps,
+    )?;
+    ask_all(
+        alloc,
+        round,
+        &told.slots,
+        &told.event,
         text,
+        shelf,
         follower,
+        spent,
+        log,
         steps,
     )?;
-    tell_all_changed(round, slots, &event, text, shelf, log)?;
-    ask_all(
-        alloc, round, slots, &event, text, shelf, follower, spent, log, steps,
+    ask_of_spans(
+        alloc,
+        round,
+        depth,
+        &told.spans,
+        text,
+        shelf,
+        follower,
+        spent,
+        log,
+        steps,
     )
 }
 
@@ -239,6 +252,86 @@ fn ask_one<S: Shelf, F: Follower, L: Ledger>(
         round,
         &answer,
         event.depth + 1,
+        text,
+        shelf,
+        follower,
+        spent,
+        log,
+        steps,
+    )
+}
+
+// Tells of each span that an edit removed, moved or added, and does what is answered before the next is told of.
+#[cycle(rounds)]
+fn ask_of_spans<S: Shelf, F: Follower, L: Ledger>(
+    alloc: Global,
+    round: &Round<'_>,
+    depth: u32,
+    told: &[SpanCallback],
+    text: &mut SpannedText,
+    shelf: &mut S,
+    follower: &mut F,
+    spent: &mut u32,
+    log: &mut Log,
+    steps: &mut Steps<L>,
+) -> Result<(), NoMemory>
+    requires callbacks { All (IsCallback (slot_count round.now) depth) told.now }
+    requires depth { depth ≤ round.now.depth }
+    requires ready { IsReady round.now.slots.now.items text.old.state (S.minds shelf.old) spent.old }
+    requires limit { round.now.depth ≤ Limits.DEPTH }
+    requires followed { F.follows follower.old text.old.state }
+    ensures ok { OnOk result (Led F.takes (setup_of round.now) (map tell_one told.now) []
+        (stands text.old.state (S.minds shelf.old) log.old.items spent.old)
+        (stands text.new.state (S.minds shelf.new) log.new.items spent.new) follower.old follower.new) }
+    ensures err { OnErr result (Passed (setup_of round.now) (map tell_one told.now)
+        (stands text.old.state (S.minds shelf.old) log.old.items spent.old)
+        (stands text.new.state (S.minds shelf.new) log.new.items spent.new)) }
+    ensures ready { IsReady round.now.slots.now.items text.new.state (S.minds shelf.new) spent.new }
+    ensures followed { OnOk result (F.follows follower.new text.new.state) }
+    ensures layout_ground { F.layout_ground follower.new ≡ F.layout_ground follower.old }
+{
+    for callback in told {
+        ask_of_span(
+            alloc, round, callback, text, shelf, follower, spent, log, steps,
+        )?;
+    }
+    Ok(())
+}
+
+// Tells a watcher of a span, and does what it answers.
+#[cycle(rounds)]
+fn ask_of_span<S: Shelf, F: Follower, L: Ledger>(
+    alloc: Global,
+    round: &Round<'_>,
+    callback: &SpanCallback,
+    text: &mut SpannedText,
+    shelf: &mut S,
+    follower: &mut F,
+    spent: &mut u32,
+    log: &mut Log,
+    steps: &mut Steps<L>,
+) -> Result<(), NoMemory>
+    requires callback { IsCallback (slot_count round.now) callback.now.event.depth callback.now }
+    requires depth { callback.now.event.depth ≤ round.now.depth }
+    requires ready { IsReady round.now.slots.now.items text.old.state (S.minds shelf.old) spent.old }
+    requires limit { round.now.depth ≤ Limits.DEPTH }
+    requires followed { F.follows follower.old text.old.state }
+    ensures ok { OnOk result (Led F.takes (setup_of round.now) (tell_span callback.now.slot callback.now.event ∷ []) []
+        (stands text.old.state (S.minds shelf.old) log.old.items spent.old)
+        (stands text.new.state (S.minds shelf.new) log.new.items spent.new) follower.old follower.new) }
+    ensures err { OnErr result (Passed (setup_of round.now) (tell_span callback.now.slot callback.now.event ∷ [])
+        (stands text.old.state (S.minds shelf.old) log.old.items spent.old)
+        (stands text.new.state (S.minds shelf.new) log.new.items spent.new)) }
+    ensures ready { IsReady round.now.slots.now.items text.new.state (S.minds shelf.new) spent.new }
+    ensures followed { OnOk result (F.follows follower.new text.new.state) }
+    ensures layout_ground { F.layout_ground follower.new ≡ F.layout_ground follower.old }
+{
+    let answer = tell_span(round, callback, text, shelf, log)?;
+    do_answer(
+        alloc,
+        round,
+        &answer,
+        callback.event.depth + 1,
         text,
         shelf,
         follower,

@@ -2,9 +2,9 @@
 
 ghost use Rattle.std.specs.Prelude.{◌≡◌, ◌≤◌, ◌<◌, ◌++◌, List, length, slice_set, slice_index_or};
 ghost use Rattle.edit_base.specs.declared.bounds.TheConstants.Limits.{TEXT};
-ghost use Rattle.edit_model.specs.Minds.{Mind, blank_mind, mind_before, mind_changed, mind_after, answer_after, IsTold};
+ghost use Rattle.edit_model.specs.Minds.{Mind, blank_mind, mind_before, mind_changed, mind_after, answer_after, mind_span, answer_span, IsTold, IsToldSpan};
 
-use edit_model::TextEvent;
+use edit_model::{SpanEvent, TextEvent};
 use watcher_api::{Answer, Watcher};
 
 /// Watchers at places. The call for one of them changes its mind alone.
@@ -33,6 +33,15 @@ pub trait Shelf {
             (mind_after (slice_index_or (minds self.old) at (blank_mind 0)) e.now (left.now ++ right.now)) }
         ensures answer { result.items
             ≡ answer_after (slice_index_or (minds self.old) at (blank_mind 0)) e.now (left.now ++ right.now) };
+
+    fn span(&mut self, at: usize, e: &SpanEvent, left: &[u16], right: &[u16]) -> Answer
+        requires place { at < length (minds self.old) }
+        requires text { length (left.now ++ right.now) ≤ TEXT }
+        requires event { IsToldSpan e.now }
+        ensures minds { minds self.new ≡ slice_set (minds self.old) at
+            (mind_span (slice_index_or (minds self.old) at (blank_mind 0)) e.now (left.now ++ right.now)) }
+        ensures answer { result.items
+            ≡ answer_span (slice_index_or (minds self.old) at (blank_mind 0)) e.now (left.now ++ right.now) };
 }
 
 impl Shelf for Vec<Box<dyn Watcher>> {
@@ -50,6 +59,10 @@ impl Shelf for Vec<Box<dyn Watcher>> {
 
     fn after(&mut self, at: usize, e: &TextEvent, left: &[u16], right: &[u16]) -> Answer {
         tell_after(&mut self[at], e, left, right)
+    }
+
+    fn span(&mut self, at: usize, e: &SpanEvent, left: &[u16], right: &[u16]) -> Answer {
+        tell_span(&mut self[at], e, left, right)
     }
 }
 
@@ -79,4 +92,14 @@ fn tell_after(watcher: &mut Box<dyn Watcher>, e: &TextEvent, left: &[u16], right
     ensures answer { result.items ≡ answer_after (mind watcher.old) e.now (left.now ++ right.now) }
 {
     watcher.after(e, left, right)
+}
+
+// Tells one watcher of a span that came, moved or went, and takes its answer.
+fn tell_span(watcher: &mut Box<dyn Watcher>, e: &SpanEvent, left: &[u16], right: &[u16]) -> Answer
+    requires text { length (left.now ++ right.now) ≤ TEXT }
+    requires event { IsToldSpan e.now }
+    ensures mind { mind watcher.new ≡ mind_span (mind watcher.old) e.now (left.now ++ right.now) }
+    ensures answer { result.items ≡ answer_span (mind watcher.old) e.now (left.now ++ right.now) }
+{
+    watcher.span(e, left, right)
 }

@@ -1,91 +1,22 @@
-//! Callbacks before an edit's answers: who is told of an edit, of what, and the telling.
+//! What watchers are told of an edit, and the telling.
 
 ghost use Rattle.std.specs.Prelude.{ℕ, ◌≡◌, ◌≤◌, ◌<◌, ◌+◌, ◌∷◌, [], length, map, slice_index_or, OnOk, OnErr, IfOk};
 ghost use Rattle.std.specs.List.{All};
 ghost use Rattle.edit_base.specs.declared.verdicts.Verdict.TheVariants.{Done};
-ghost use Rattle.edit_base.specs.declared.rows.Pick.TheVariants.{Watches};
-ghost use Rattle.edit_model.specs.Rows.{spans_in};
-ghost use Rattle.edit_model.specs.Over.{over};
-ghost use Rattle.edit_model.specs.WellFormed.{IsSeated};
 ghost use Rattle.edit_model.specs.Verdicts.{judged};
-ghost use Rattle.edit_model.specs.Events.{seat_of, seats_of, listeners, text_event};
+ghost use Rattle.edit_model.specs.Events.{IsCallback, text_event};
 ghost use Rattle.edit_model.specs.Minds.{IsTold, blank_mind, answer_after};
 ghost use Rattle.edit_model.specs.Fitting.{IsFittingStep};
-ghost use Rattle.edit_model.specs.Machine.{tell_before, tell_changed, tell_after, rest_of, mind_in};
+ghost use Rattle.edit_model.specs.Machine.{tell_before, tell_changed, tell_after, tell_span, rest_of, mind_in};
 ghost use Rattle.watcher_rounds.specs.Rounds.{setup_of, slot_count, stands, AreOnShelf, Tells, Passed};
 
 use crate::asking::place_of;
 use crate::round::{Log, Round};
 use crate::shelf::Shelf;
-use edit_base::{Limits, NoMemory, Pick, SpanRow, Steps, What};
-use edit_model::{LogEntry, Step, TextEvent};
+use edit_base::{Limits, NoMemory};
+use edit_model::{LogEntry, SpanCallback, Step, TextEvent};
 use replace_engine::SpannedText;
-use std::alloc::Global;
-use std::sync::ledger::Ledger;
 use watcher_api::Answer;
-
-/// The slots of the watchers that are told of an edit's text, in the order of the query before the change.
-#[tactic(auto, unfolding(edit_model::specs::Events::listeners))]
-pub fn listeners<L: Ledger>(
-    alloc: Global,
-    step: &Step,
-    text: &SpannedText,
-    steps: &mut Steps<L>,
-) -> Result<Vec<u8>, NoMemory>
-    ensures listeners { IfOk result (λ slots. slots.items ≡ listeners text.now.state step.now) }
-    ensures seated { (count : ℕ) → IsSeated count text.now.state.spans
-        → IfOk result (λ slots. All (λ slot. slot < count) slots.items) }
-{
-    match step {
-        Step::Replace { start, end, .. } => {
-            slots_over(alloc, place_of(*start), place_of(*end), text, steps)
-        }
-        Step::Set { .. } => Ok(Vec::new(alloc)),
-        Step::Remove { .. } => Ok(Vec::new(alloc)),
-    }
-}
-
-// The slots of the seats over a range, in the order of a query.
-fn slots_over<L: Ledger>(
-    alloc: Global,
-    start: u32,
-    end: u32,
-    text: &SpannedText,
-    steps: &mut Steps<L>,
-) -> Result<Vec<u8>, NoMemory>
-    ensures { IfOk result (λ slots. slots.items ≡ seats_of (over start end Watches text.now.state.spans)) }
-{
-    let mut rows = Vec::new(alloc);
-    text.spans_over(start, end, Pick::Watches, &mut rows, steps)?;
-    seats_of(alloc, &rows)
-}
-
-// The slots of seats.
-fn seats_of(alloc: Global, rows: &[SpanRow]) -> Result<Vec<u8>, NoMemory>
-    ensures { IfOk result (λ slots. slots.items ≡ seats_of (spans_in rows.now)) }
-{
-    let mut slots = Vec::new(alloc);
-    for row in rows {
-        slots.push(seat_of(row.what))?;
-    }
-    Ok(slots)
-}
-
-// The slot of a seat.
-fn seat_of(what: What) -> u8
-    ensures { result ≡ seat_of what }
-{
-    match what {
-        What::Tag(_) => 0,
-        What::Face(_) => 0,
-        What::Margin { .. } => 0,
-        What::Float { .. } => 0,
-        What::Watch(slot) => slot,
-        What::SelStart => 0,
-        What::SelEnd => 0,
-        What::Composing => 0,
-    }
-}
 
 /// What they are told of an edit that is done.
 #[tactic(auto, unfolding(edit_model::specs::Events::text_event))]
@@ -257,4 +188,34 @@ pub fn tell_after<S: Shelf>(
     })?;
     let (left, right) = text.halves();
     Ok(shelf.after(round.slots[slot as usize], event, left, right))
+}
+
+/// Tells a watcher of a span that an edit added, moved or removed, and takes its answer.
+pub fn tell_span<S: Shelf>(
+    round: &Round<'_>,
+    callback: &SpanCallback,
+    text: &SpannedText,
+    shelf: &mut S,
+    log: &mut Log,
+) -> Result<Answer, NoMemory>
+    requires callback { IsCallback (slot_count round.now) callback.now.event.depth callback.now }
+    requires shelf { AreOnShelf round.now.slots.now.items (S.minds shelf.old) }
+    ensures ok { (begun : ℕ) → IfOk result (λ answer. Tells (setup_of round.now)
+        (tell_span callback.now.slot callback.now.event ∷ []) (rest_of answer.items (callback.now.event.depth + 1))
+        (stands text.now.state (S.minds shelf.old) log.old.items begun)
+        (stands text.now.state (S.minds shelf.new) log.new.items begun)) }
+    ensures err { OnErr result ((S.minds shelf.new ≡ S.minds shelf.old) × (log.new.items ≡ log.old.items)) }
+    ensures shelf { AreOnShelf round.now.slots.now.items (S.minds shelf.new) }
+{
+    log.push(LogEntry::Span {
+        slot: callback.slot,
+        event: callback.event,
+    })?;
+    let (left, right) = text.halves();
+    Ok(shelf.span(
+        round.slots[callback.slot as usize],
+        &callback.event,
+        left,
+        right,
+    ))
 }

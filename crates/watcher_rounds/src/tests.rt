@@ -9,8 +9,10 @@ ghost use Rattle.edit_model.specs.State.{empty_state};
 
 use crate::round::{Log, Slots};
 use crate::rounds::apply;
-use edit_base::{Edit, Incoming, Items, Limits, NoMemory, Refusal, Steps, Verdict, What, units_of};
-use edit_model::{Item, LogEntry, Logged, TextEvent};
+use edit_base::{
+    Edit, Incoming, Items, Limits, NewSpan, NoMemory, Refusal, Steps, Verdict, What, units_of,
+};
+use edit_model::{Item, LogEntry, Logged, SpanChange, SpanEvent, TextEvent};
 use replace_engine::{Change, Follower, SpannedText, Unfollowed};
 use std::alloc::Global;
 use std::marker::Brand;
@@ -66,11 +68,51 @@ fn bringing(rt: &impl Abort, units: Vec<u16>, alloc: Global) -> Incoming
     }
 }
 
-// A replacement with its start, end and text, or the seat of the watcher in a slot with its id, start, end and flags.
+// Incoming units with a span over the first of them.
+fn bringing_with(
+    rt: &impl Abort,
+    units: Vec<u16>,
+    id: u32,
+    alloc: Global,
+) -> Result<Incoming, NoMemory>
+    ensures { IfOk result IsBrought }
+{
+    assert!(rt; units.len() <= 65_536);
+    let mut spans = Vec::new(alloc);
+    spans.push(NewSpan {
+        id,
+        start: 0,
+        end: 1,
+        flags: 33,
+        what: What::Tag(1),
+    })?;
+    Ok(Incoming {
+        units: Items::from_vec(units),
+        spans: Items::from_vec(spans),
+        composing: false,
+    })
+}
+
+// A replacement with its start, end and text; the same with the id of a span that comes over the first unit; or what is
+// set, with its id, start, end and flags: the seat of the watcher in a slot, or a tag.
 #[derive(Clone, Copy, Debug)]
 enum Ask {
     Write(i32, i32, &'static str),
+    Bring(i32, i32, &'static str, u32),
     Seat(u32, i32, i32, u32, u8),
+    Mark(u32, i32, i32, u32),
+}
+
+fn set(id: u32, start: i32, end: i32, flags: u32, what: What) -> Item
+    ensures { IsFittingItem result }
+{
+    Item::Edit(Edit::SetSpan {
+        id,
+        start,
+        end,
+        flags,
+        what,
+    })
 }
 
 fn item_of(rt: &impl Abort, alloc: Global, ask: Ask) -> Result<Item, NoMemory>
@@ -85,13 +127,16 @@ fn item_of(rt: &impl Abort, alloc: Global, ask: Ask) -> Result<Item, NoMemory>
                 incoming: bringing(rt, units, alloc),
             })
         }
-        Ask::Seat(id, start, end, flags, slot) => Ok(Item::Edit(Edit::SetSpan {
-            id,
-            start,
-            end,
-            flags,
-            what: What::Watch(slot),
-        })),
+        Ask::Bring(start, end, brought, id) => {
+            let units = units_of(alloc, brought)?;
+            Ok(Item::Replace {
+                start,
+                end,
+                incoming: bringing_with(rt, units, id, alloc)?,
+            })
+        }
+        Ask::Seat(id, start, end, flags, slot) => Ok(set(id, start, end, flags, What::Watch(slot))),
+        Ask::Mark(id, start, end, flags) => Ok(set(id, start, end, flags, What::Tag(1))),
     }
 }
 
@@ -156,6 +201,9 @@ fn play<F: Follower, L: Ledger>(
 // The depth of an event, its start, and the units before and after.
 type Told = (u32, u32, u32, u32);
 
+// The depth of an event and a span's id, what became of it, its old place and its place.
+type Seen = (u32, u32, SpanChange, (u32, u32), (u32, u32));
+
 // An entry that is wanted: a replacement with its depth, start, end, units and verdict, or a callback with its slot.
 #[derive(Clone, Copy, Debug)]
 enum Entry {
@@ -163,6 +211,20 @@ enum Entry {
     Before(u8, Told),
     Changed(u8, Told),
     After(u8, Told),
+    Span(u8, Seen),
+}
+
+fn span_event(seen: Seen) -> SpanEvent {
+    let (depth, id, change, (old_start, old_end), (start, end)) = seen;
+    SpanEvent {
+        depth,
+        id,
+        change,
+        old_start,
+        old_end,
+        start,
+        end,
+    }
 }
 
 fn event(told: Told) -> TextEvent {
@@ -195,6 +257,10 @@ fn logged(entry: Entry) -> LogEntry {
         Entry::After(slot, told) => LogEntry::After {
             slot,
             event: event(told),
+        },
+        Entry::Span(slot, seen) => LogEntry::Span {
+            slot,
+            event: span_event(seen),
         },
     }
 }
@@ -256,7 +322,7 @@ const TOO_DEEP: [Entry; 13] = [
     Entry::Edit(3, 0, 0, 1, Verdict::Refused(Refusal::Depth)),
 ];
 
-const IN_BETWEEN: [Entry; 15] = [
+const IN_BETWEEN: [Entry; 19] = [
     Entry::Edit(0, 0, 0, 1, Verdict::Done),
     Entry::Before(0, OWN),
     Entry::Before(1, OWN),
@@ -271,7 +337,24 @@ const IN_BETWEEN: [Entry; 15] = [
     Entry::After(0, FIRST),
     Entry::Edit(2, 0, 0, 1, Verdict::Refused(Refusal::Depth)),
     Entry::After(1, FIRST),
+    Entry::Span(1, (1, 10, SpanChange::Moved, (0, 1), (0, 2))),
+    Entry::Span(0, (1, 11, SpanChange::Moved, (0, 1), (0, 2))),
     Entry::After(1, OWN),
+    Entry::Span(1, (0, 10, SpanChange::Moved, (0, 0), (0, 1))),
+    Entry::Span(0, (0, 11, SpanChange::Moved, (0, 0), (0, 1))),
+];
+
+// Three units that become one.
+const PARTED: Told = (0, 0, 3, 1);
+
+const SPANS: [Entry; 7] = [
+    Entry::Edit(0, 0, 3, 1, Verdict::Done),
+    Entry::Before(0, PARTED),
+    Entry::Changed(0, PARTED),
+    Entry::After(0, PARTED),
+    Entry::Span(0, (0, 20, SpanChange::Removed, (1, 3), (1, 3))),
+    Entry::Span(0, (0, 21, SpanChange::Moved, (4, 5), (2, 3))),
+    Entry::Span(0, (0, 20, SpanChange::Added, (0, 1), (0, 1))),
 ];
 
 // Two units that go.
@@ -383,6 +466,38 @@ fn watchers_are_those_from_before_the_change(rt: HostRuntime) -> Result<(), Fail
     )?;
     assert_logged(&rt, &log, &EMPTIED);
     assert_eq!(rt; text.span_count(), 0);
+    Ok(())
+}
+
+// A span that the text's edit empties goes, one behind the edit moves, and one of the first one's id comes: each is told
+// of, and the seat, which moves too, isn't told of itself.
+#[test]
+fn spans_are_told_as_removed_moved_and_added(rt: HostRuntime) -> Result<(), Fail> {
+    let mut text = SpannedText::new(rt.alloc())?;
+    let mut log = Vec::new(rt.alloc());
+    let mut shelf: Vec<Box<dyn Watcher>> = Vec::new(rt.alloc());
+    shelf.push(Box::new(rt.alloc(), Note::blank())?)?;
+    shelf.push(Box::new(rt.alloc(), Note::blank())?)?;
+    let asks = [
+        Ask::Write(0, 0, "abcde"),
+        Ask::Mark(21, 4, 5, 34),
+        Ask::Mark(20, 1, 3, 33),
+        Ask::Seat(10, 0, 5, 18, 0),
+        Ask::Bring(0, 3, "x", 20),
+    ];
+    play::<Unfollowed, Brand>(
+        &rt,
+        rt.alloc(),
+        Blank::new(1),
+        &mut shelf,
+        &mut Unfollowed,
+        4,
+        &asks,
+        &mut text,
+        &mut log,
+    )?;
+    assert_logged(&rt, &log, &SPANS);
+    assert_eq!(rt; text.span_count(), 3);
     Ok(())
 }
 

@@ -1,4 +1,4 @@
-use Rattle.std.proofs.Common.{refl, sym, subst}
+use Rattle.std.proofs.Common.{refl, subst}
 use Rattle.edit_model.specs.MachineLaws.{OnlyLogs}
 use Rattle.edit_model.specs.Machine.{Scene, resolved, edit_entry}
 use Rattle.edit_model.proofs.MachineRuns.{ends_once, ends_logged}

@@ -1,4 +1,3 @@
-use Rattle.edit_model.specs.Machine.{at, run_item}
 use Rattle.edit_model.proofs.MachineRuns.{ends_once}
 use Rattle.edit_model.proofs.Outcomes.{every_run_ends, ends-outcome}
 use Rattle.edit_model.proofs.machine_laws.runs_end.Goals as goal

@@ -1,4 +1,4 @@
-use Rattle.std.proofs.Common.{◌≡◌, ◌∙◌, ◌++◌, ◌∷◌, [], length, ap, sym, rules}
+use Rattle.std.proofs.Common.{◌≡◌, ◌∙◌, ◌++◌, ◌∷◌, [], length, ap, rules}
 use Rattle.edit_model.specs.Verdicts.{judged}
 use Rattle.edit_model.specs.Log.{entry_of, logged}
 use Rattle.edit_model.specs.Filtered.{filtered_step}

@@ -1,10 +1,9 @@
 -- Each call leads on from where the one before it left off; each early end is a scene that the run comes through.
-use Rattle.std.proofs.Common.{◌≡◌, ◌∙◌, ◌+◌, ◌∷◌, [], drop, refl, sym}
-use Rattle.edit_model.specs.Changed.{on_done}
-use Rattle.edit_model.specs.Machine.{do_rest, tell_after, rest_of, events}
-use Rattle.watcher_rounds.specs.Rounds.{setup_of, stands}
+use Rattle.std.proofs.Common.{◌∙◌, ◌+◌, ◌∷◌, [], drop, refl, sym}
+use Rattle.edit_model.specs.Machine.{do_rest, tell_after, rest_of}
+use Rattle.watcher_rounds.specs.Rounds.{setup_of, stands, tell_one}
 use Rattle.watcher_rounds.proofs.Runs.{passed_here, passed_told, passed_still, on_err, on_err_then, on_ok_then}
-use Rattle.watcher_rounds.proofs.Follows.{AreLaws, told_on, led_none, led_more, passed_more, led_change, passed_change, sets_off_done, led_set_off, passed_before, passed_at_change, passed_changed, passed_after, led_undone, led_barred, led_begun, passed_begun, led_stop, led_go_on, passed_rest, led_rest, led_from}
+use Rattle.watcher_rounds.proofs.Follows.{AreLaws, told_on, led_none, led_more, passed_more, led_asked, passed_asked, passed_of_spans, led_undone, led_barred, led_begun, passed_begun, led_stop, led_go_on, passed_rest, led_rest, led_from}
 use Rattle.watcher_rounds.proofs.rounds.+rounds.Goals as goal
 
 -- ---- ask_all
@@ -148,6 +147,53 @@ do_edit-returns-clause-ok g t c others =
     (g.S.Shelf.minds a.shelf.now) a.log.now.items c.judge_and_log.new.log.items a.spent.now c.in_ok-step.ensures.step judged.log
     (sym c.is_barred.ensures.barred ∙ c.if-is_barred.false) judged.brought judged.verdict c.in_ok-set_off.ensures.ok
 
+-- ---- ask_of_spans
+
+pub ask_of_spans-loop-callback-init : goal.ask_of_spans-loop-callback-init
+ask_of_spans-loop-callback-init g t c =
+    let laws : AreLaws g.F.Follower.takes = record { none = g.met.F.Follower.takes_none; both = g.met.F.Follower.takes_both } in
+    let a = c.args in
+    record {
+      led = led_none laws (setup_of a.round.now) [] (stands a.text.now.state (g.S.Shelf.minds a.shelf.now) a.log.now.items a.spent.now) a.follower.now;
+      ready = c.requires.ready;
+      followed = c.requires.followed;
+      layout_ground = refl;
+    }
+
+pub ask_of_spans-returns-in_err-ask_of_span-clause-err : goal.ask_of_spans-returns-in_err-ask_of_span-clause-err
+ask_of_spans-returns-in_err-ask_of_span-clause-err g t c =
+    on_err c.from_residual.result
+    (passed_more tell_one c.args.told.now c.loop-callback.callback-index _ c.loop-callback-test.true c.loop-callback.invariant.led
+    c.in_err-ask_of_span.ensures.err)
+
+pub ask_of_spans-loop-callback-preserved : goal.ask_of_spans-loop-callback-preserved
+ask_of_spans-loop-callback-preserved g t c =
+    let laws : AreLaws g.F.Follower.takes = record { none = g.met.F.Follower.takes_none; both = g.met.F.Follower.takes_both } in
+    record {
+      led = led_more laws tell_one c.args.told.now c.loop-callback.callback-index _ c.loop-callback-test.true c.loop-callback.invariant.led
+          c.in_ok-ask_of_span.ensures.ok;
+      ready = c.in_ok-ask_of_span.ensures.ready;
+      followed = c.in_ok-ask_of_span.ensures.followed;
+      layout_ground = c.in_ok-ask_of_span.ensures.layout_ground ∙ c.loop-callback.invariant.layout_ground;
+    }
+
+-- ---- ask_of_span
+
+pub ask_of_span-returns-in_err-answer-clause-err : goal.ask_of_span-returns-in_err-answer-clause-err
+ask_of_span-returns-in_err-answer-clause-err g t c =
+    let a = c.args in
+    on_err c.from_residual.result
+    (passed_still a.text.now.state (g.S.Shelf.minds a.shelf.now) _ a.log.now.items _ a.spent.now c.in_err-answer.ensures.err
+    (passed_here (setup_of a.round.now) (tell_one a.callback.now ∷ [])
+    (stands a.text.now.state (g.S.Shelf.minds a.shelf.now) a.log.now.items a.spent.now)))
+
+pub ask_of_span-returns-clause-ok : goal.ask_of_span-returns-clause-ok
+ask_of_span-returns-clause-ok g t c = on_ok_then c.do_answer.result c.do_answer.ensures.ok (λ led. told_on (c.in_ok-answer.ensures.ok c.args.spent.now) led)
+
+pub ask_of_span-returns-clause-err : goal.ask_of_span-returns-clause-err
+ask_of_span-returns-clause-err g t c = on_err_then c.do_answer.result c.do_answer.ensures.err
+    (λ passed. passed_told (c.in_ok-answer.ensures.ok c.args.spent.now) passed)
+
 -- ---- set_off
 
 pub set_off-returns-in_default : goal.set_off-returns-in_default
@@ -164,66 +210,25 @@ set_off-returns-in_default g t c =
     }
 
 pub set_off-returns-in_err-told-clause-err : goal.set_off-returns-in_err-told-clause-err
-set_off-returns-in_err-told-clause-err g t c =
-    let a = c.args in
-    on_err c.from_residual.result
-    (passed_here (setup_of a.round.now) (on_done a.found.now.verdict (events a.text.now.state a.depth a.found.now.brought) [])
-    (stands a.text.now.state (g.S.Shelf.minds a.shelf.now) a.log.now.items a.spent.now))
+set_off-returns-in_err-told-clause-err g t c = on_err c.from_residual.result c.in_err-told.ensures.err
 
-pub set_off-returns-in_err-tell_all_before-clause-err : goal.set_off-returns-in_err-tell_all_before-clause-err
-set_off-returns-in_err-tell_all_before-clause-err g t c =
-    let a = c.args in
-    let told = c.as_slice-slots.ensures.value ∙ c.in_ok-told.ensures.listeners in
-    let sets = sets_off_done a.text.now.state a.depth a.found.now.brought a.found.now.verdict c.as_slice-slots.result.now c.event_of-event.result
-    c.in-Done.is told c.event_of-event.ensures.event in
-    on_err c.from_residual-in_err-tell_all_before.result (passed_before sets (c.in_err-tell_all_before.ensures.err a.spent.now))
-
-pub set_off-returns-in_err-change-clause-err : goal.set_off-returns-in_err-change-clause-err
-set_off-returns-in_err-change-clause-err g t c =
-    let a = c.args in
-    let told = c.as_slice-slots.ensures.value ∙ c.in_ok-told.ensures.listeners in
-    let sets = sets_off_done a.text.now.state a.depth a.found.now.brought a.found.now.verdict c.as_slice-slots.result.now c.event_of-event.result
-    c.in-Done.is told c.event_of-event.ensures.event in
-    let before = c.in_ok-tell_all_before.ensures.ok a.spent.now in
-    let change = passed_change (setup_of a.round.now) a.found.now.brought a.text.now.state c.change.new.text.state (g.S.Shelf.minds c.tell_all_before.new.shelf)
-    c.tell_all_before.new.log.items a.spent.now c.in_err-change.ensures.err in
-    on_err c.from_residual-in_err-change.result (passed_at_change sets before change)
-
-pub set_off-returns-in_err-tell_all_changed-clause-err : goal.set_off-returns-in_err-tell_all_changed-clause-err
-set_off-returns-in_err-tell_all_changed-clause-err g t c =
-    let a = c.args in
-    let told = c.as_slice-slots.ensures.value ∙ c.in_ok-told.ensures.listeners in
-    let sets = sets_off_done a.text.now.state a.depth a.found.now.brought a.found.now.verdict c.as_slice-slots.result.now c.event_of-event.result
-    c.in-Done.is told c.event_of-event.ensures.event in
-    let before = c.in_ok-tell_all_before.ensures.ok a.spent.now in
-    let change = led_change {takes = g.F.Follower.takes} (setup_of a.round.now) a.found.now.brought a.text.now.state c.change.new.text.state
-    (g.S.Shelf.minds c.tell_all_before.new.shelf) c.tell_all_before.new.log.items a.spent.now a.follower.now c.change.new.follower
-    c.in_ok-change.ensures.state c.in_ok-change.ensures.takes in
-    on_err c.from_residual-in_err-tell_all_changed.result (passed_changed sets before change (c.in_err-tell_all_changed.ensures.err a.spent.now))
+pub set_off-returns-in_err-ask_all-clause-err : goal.set_off-returns-in_err-ask_all-clause-err
+set_off-returns-in_err-ask_all-clause-err g t c =
+    let told = c.in_ok-told.told in
+    on_err c.from_residual-in_err-ask_all.result
+    (passed_asked told.slots.items c.deref.result.now told.event told.spans.items c.deref.ensures.value c.in_ok-told.ensures.ok c.in_err-ask_all.ensures.err)
 
 pub set_off-returns-clause-ok : goal.set_off-returns-clause-ok
 set_off-returns-clause-ok g t c =
     let laws : AreLaws g.F.Follower.takes = record { none = g.met.F.Follower.takes_none; both = g.met.F.Follower.takes_both } in
-    let a = c.args in
-    let told = c.as_slice-slots.ensures.value ∙ c.in_ok-told.ensures.listeners in
-    let sets = sets_off_done a.text.now.state a.depth a.found.now.brought a.found.now.verdict c.as_slice-slots.result.now c.event_of-event.result
-    c.in-Done.is told c.event_of-event.ensures.event in
-    let before = c.in_ok-tell_all_before.ensures.ok a.spent.now in
-    let change = led_change {takes = g.F.Follower.takes} (setup_of a.round.now) a.found.now.brought a.text.now.state c.change.new.text.state
-    (g.S.Shelf.minds c.tell_all_before.new.shelf) c.tell_all_before.new.log.items a.spent.now a.follower.now c.change.new.follower
-    c.in_ok-change.ensures.state c.in_ok-change.ensures.takes in
-    let changed = c.in_ok-tell_all_changed.ensures.ok a.spent.now in
-    on_ok_then c.ask_all.result c.ask_all.ensures.ok (λ after. led_set_off laws sets before change changed after)
+    let told = c.in_ok-told.told in
+    on_ok_then c.ask_of_spans.result c.ask_of_spans.ensures.ok
+    (λ last. led_asked laws told.slots.items c.deref.result.now told.event told.spans.items c.deref-2.result.now c.deref.ensures.value
+    c.deref-2.ensures.value c.in_ok-told.ensures.ok c.in_ok-ask_all.ensures.ok last)
 
 pub set_off-returns-clause-err : goal.set_off-returns-clause-err
 set_off-returns-clause-err g t c =
-    let a = c.args in
-    let told = c.as_slice-slots.ensures.value ∙ c.in_ok-told.ensures.listeners in
-    let sets = sets_off_done a.text.now.state a.depth a.found.now.brought a.found.now.verdict c.as_slice-slots.result.now c.event_of-event.result
-    c.in-Done.is told c.event_of-event.ensures.event in
-    let before = c.in_ok-tell_all_before.ensures.ok a.spent.now in
-    let change = led_change {takes = g.F.Follower.takes} (setup_of a.round.now) a.found.now.brought a.text.now.state c.change.new.text.state
-    (g.S.Shelf.minds c.tell_all_before.new.shelf) c.tell_all_before.new.log.items a.spent.now a.follower.now c.change.new.follower
-    c.in_ok-change.ensures.state c.in_ok-change.ensures.takes in
-    let changed = c.in_ok-tell_all_changed.ensures.ok a.spent.now in
-    on_err_then c.ask_all.result c.ask_all.ensures.err (λ after. passed_after sets before change changed after)
+    let told = c.in_ok-told.told in
+    on_err_then c.ask_of_spans.result c.ask_of_spans.ensures.err
+    (λ last. passed_of_spans told.slots.items c.deref.result.now told.event told.spans.items c.deref-2.result.now c.deref.ensures.value
+    c.deref-2.ensures.value c.in_ok-told.ensures.ok c.in_ok-ask_all.ensures.ok last)

@@ -1,10 +1,10 @@
 -- The places lie in the text, in order, and the text isn't too long then.
-use Rattle.std.proofs.Common.{◌≡◌, ◌≤◌, ◌-◌, length, subst, arith, rules}
+use Rattle.std.proofs.Common.{◌≡◌, subst, arith, rules}
 use Rattle.edit_base.specs.declared.verdicts.Verdict.TheVariants.{Done}
 use Rattle.edit_model.specs.declared.steps.Step.{Step}
 use Rattle.edit_model.specs.State.{place}
 use Rattle.edit_model.specs.Verdicts.{judged}
-use Rattle.edit_model.proofs.EditedStates.{Passes, passes}
+use Rattle.edit_model.proofs.EditedStates.{passes}
 use Rattle.watcher_rounds.proofs.telling.event_of.Goals as goal
 
 pub overflow_sub-result : goal.overflow_sub-result

@@ -1,5 +1,4 @@
 -- Those so far were told, and one more.
-use Rattle.std.proofs.Common.{◌≡◌, ◌<◌, ◌∙◌, length}
 use Rattle.edit_model.specs.Machine.{tell_before}
 use Rattle.watcher_rounds.proofs.Runs.{tells_more, tells_all, passed_among, passed_still, on_err}
 use Rattle.watcher_rounds.proofs.telling.tell_all_before.Goals as goal

@@ -1,7 +1,7 @@
 -- Both places are below 2.
 use Rattle.std.proofs.Common.{◌≡◌, ◌<◌, ◌≤◌, ◌∙◌, ◌++◌, ◌∷◌, [], ℕ, List, sym, ap, subst, arith}
 use Rattle.std.specs.List.{All}
-use Rattle.watcher_rounds.proofs.Seats.{all_from_each}
+use Rattle.watcher_rounds.proofs.Beside.{all_from_each}
 use Rattle.watcher_rounds.proofs.tests.two_slots.Goals as goal
 
 pub returns : goal.returns
