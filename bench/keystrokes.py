@@ -1,9 +1,9 @@
 #!/usr/bin/env python3
 """Times typing in a text with spans and a watcher.
 
-usage: bench/keystrokes.py [COUNT [CROWDED]]      COUNT: how many lines are typed (default 20000)
-                                              CROWDED: how many under the most spans with a watcher over all of them
-                                              (default: as many of COUNT as take a minute)
+usage: bench/keystrokes.py [COUNT [CROWDED]]   COUNT: how many lines are typed (default 20000)
+                                               CROWDED: how many under the most spans with a watcher over all of them
+                                               (default: as many of COUNT as take a minute)
 
 Runs the built program on a trace that only sets up text and spans, and on the same trace with COUNT edits behind it,
 and prints the edits a second that the difference gives: under 0, 100 and 4,096 spans, each without a watcher, with one

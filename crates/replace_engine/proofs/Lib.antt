@@ -12,4 +12,3 @@ pub mod Ordered
 pub mod Found
 pub mod Done
 pub mod Told
-mod Turned

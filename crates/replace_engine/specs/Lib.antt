@@ -6,3 +6,4 @@ pub mod Changes
 pub mod Arrivals
 pub mod Lines
 pub mod Moved
+pub mod Work

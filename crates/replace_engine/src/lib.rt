@@ -14,7 +14,6 @@ mod places;
 mod queries;
 mod room;
 mod setting;
-mod splice;
 mod telling;
 #[cfg(test)]
 mod tests;

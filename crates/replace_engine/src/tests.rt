@@ -83,7 +83,7 @@ pub(crate) enum Ask<'a> {
 }
 
 /// An edit and its verdict.
-pub(crate) type Case<'a> = (Ask<'a>, Verdict);
+type Case<'a> = (Ask<'a>, Verdict);
 
 fn step_of(rt: &impl Abort, alloc: Global, ask: Ask) -> Result<Step, NoMemory> {
     Ok(match ask {
@@ -150,7 +150,7 @@ pub(crate) fn edit<L: Ledger>(
 }
 
 /// Each edit is judged and answered so, a replacement whatever the number of watchers.
-pub(crate) fn plays<L: Ledger>(
+fn plays<L: Ledger>(
     rt: &impl Abort,
     alloc: Global,
     text: &mut SpannedText,
@@ -181,7 +181,7 @@ pub(crate) fn plays<L: Ledger>(
 }
 
 /// An id, a start, an end, a flags word and a tag.
-pub(crate) type Tagged = (u32, u16, u16, u32, u32);
+type Tagged = (u32, u16, u16, u32, u32);
 
 /// A row with this order; that of the id 2 is the composing region.
 fn row(tagged: Tagged, order: u64) -> SpanRow {
@@ -201,7 +201,7 @@ fn row(tagged: Tagged, order: u64) -> SpanRow {
 }
 
 /// The attached spans, in order of attachment.
-pub(crate) fn has_spans(rt: &impl Abort, text: &SpannedText, spans: &[Tagged]) {
+fn has_spans(rt: &impl Abort, text: &SpannedText, spans: &[Tagged]) {
     assert_eq!(rt; text.span_count() as usize, spans.len());
     for (at, span) in spans.iter().enumerate() {
         assert!(rt; (at as u32) < text.span_count());
@@ -212,6 +212,82 @@ pub(crate) fn has_spans(rt: &impl Abort, text: &SpannedText, spans: &[Tagged]) {
 /// Edits from the empty text, and the spans that are attached then.
 type Script<'a> = (&'a [Case<'a>], &'a [Tagged]);
 
+/// Where the rules take spans.
+const SCRIPTS: [Script<'static>; 6] = [
+    (
+        &[
+            (Ask::Replace(0, 0, "hello"), Verdict::Done),
+            (Ask::Set(5, 1, 4, 33, 0), Verdict::Done),
+            (Ask::Replace(1, 4, "xy"), Verdict::Done),
+        ],
+        &[(5, 1, 3, 33, 0)],
+    ),
+    (
+        &[
+            (Ask::Replace(0, 0, "abcd"), Verdict::Done),
+            (Ask::Set(5, 2, 2, 17, 0), Verdict::Done),
+            (Ask::Set(6, 2, 2, 34, 0), Verdict::Done),
+            (Ask::Replace(2, 2, "xy"), Verdict::Done),
+        ],
+        &[(5, 2, 2, 17, 0), (6, 4, 4, 34, 0)],
+    ),
+    (
+        &[
+            (Ask::Replace(0, 0, "a\nb\nc"), Verdict::Done),
+            (Ask::Set(5, 2, 4, 51, 0), Verdict::Done),
+            (Ask::Replace(1, 2, ""), Verdict::Done),
+        ],
+        &[(5, 3, 3, 51, 0)],
+    ),
+    (
+        &[
+            (Ask::Replace(0, 0, "abc"), Verdict::Done),
+            (
+                Ask::Set(5, 1, 3, 51, 0),
+                Verdict::Refused(Refusal::ParagraphStart),
+            ),
+            (
+                Ask::Set(5, 0, 2, 51, 0),
+                Verdict::Refused(Refusal::ParagraphEnd),
+            ),
+            (Ask::Set(5, 0, 3, 51, 0), Verdict::Done),
+        ],
+        &[(5, 0, 3, 51, 0)],
+    ),
+    (
+        &[
+            (
+                Ask::Set(1, 0, 0, 34, 0),
+                Verdict::Refused(Refusal::Reserved),
+            ),
+            (Ask::Seat(5, 1), Verdict::Refused(Refusal::Slot)),
+            (Ask::Seat(5, 0), Verdict::Done),
+            (Ask::Seat(5, 0), Verdict::Done),
+            (Ask::Seat(6, 0), Verdict::Refused(Refusal::Slot)),
+            (Ask::Remove(5), Verdict::Done),
+            (Ask::Set(5, 9, 8, 16, 0), Verdict::Refused(Refusal::Flags)),
+            (Ask::Set(5, 1, 0, 33, 0), Verdict::Refused(Refusal::Order)),
+            (Ask::Set(5, -1, 1, 33, 0), Verdict::Refused(Refusal::Beyond)),
+            (Ask::Set(5, -1, -1, 33, 0), Verdict::Refused(Refusal::Below)),
+            (Ask::Set(5, 0, 0, 33, 0), Verdict::Ignored),
+            (Ask::Remove(5), Verdict::Absent),
+            (Ask::Remove(2), Verdict::Refused(Refusal::Reserved)),
+        ],
+        &[],
+    ),
+    (
+        &[
+            (Ask::Replace(0, 0, "abcd"), Verdict::Done),
+            (Ask::Set(5, 0, 1, 17, 1), Verdict::Done),
+            (Ask::Set(6, 0, 1, 17, 2), Verdict::Done),
+            (Ask::Set(7, 1, 2, 33, 3), Verdict::Done),
+            (Ask::Set(5, 2, 3, 17, 3), Verdict::Done),
+            (Ask::Replace(1, 3, ""), Verdict::Done),
+        ],
+        &[(5, 1, 1, 17, 3), (6, 0, 1, 17, 2)],
+    ),
+];
+
 /// The spans stand where the rules take them.
 fn scripts<L: Ledger>(rt: &impl Abort, alloc: Global, blank: Blank) -> Result<(), NoMemory>
     requires name { blank.name ≡ L.name }
@@ -219,82 +295,7 @@ fn scripts<L: Ledger>(rt: &impl Abort, alloc: Global, blank: Blank) -> Result<()
     requires some { 0 < blank.parts }
 {
     let mut steps = Steps::<L>::start(blank);
-    let done = Verdict::Done;
-    let scripts: [Script; 6] = [
-        (
-            &[
-                (Ask::Replace(0, 0, "hello"), done),
-                (Ask::Set(5, 1, 4, 33, 0), done),
-                (Ask::Replace(1, 4, "xy"), done),
-            ],
-            &[(5, 1, 3, 33, 0)],
-        ),
-        (
-            &[
-                (Ask::Replace(0, 0, "abcd"), done),
-                (Ask::Set(5, 2, 2, 17, 0), done),
-                (Ask::Set(6, 2, 2, 34, 0), done),
-                (Ask::Replace(2, 2, "xy"), done),
-            ],
-            &[(5, 2, 2, 17, 0), (6, 4, 4, 34, 0)],
-        ),
-        (
-            &[
-                (Ask::Replace(0, 0, "a\nb\nc"), done),
-                (Ask::Set(5, 2, 4, 51, 0), done),
-                (Ask::Replace(1, 2, ""), done),
-            ],
-            &[(5, 3, 3, 51, 0)],
-        ),
-        (
-            &[
-                (Ask::Replace(0, 0, "abc"), done),
-                (
-                    Ask::Set(5, 1, 3, 51, 0),
-                    Verdict::Refused(Refusal::ParagraphStart),
-                ),
-                (
-                    Ask::Set(5, 0, 2, 51, 0),
-                    Verdict::Refused(Refusal::ParagraphEnd),
-                ),
-                (Ask::Set(5, 0, 3, 51, 0), done),
-            ],
-            &[(5, 0, 3, 51, 0)],
-        ),
-        (
-            &[
-                (
-                    Ask::Set(1, 0, 0, 34, 0),
-                    Verdict::Refused(Refusal::Reserved),
-                ),
-                (Ask::Seat(5, 1), Verdict::Refused(Refusal::Slot)),
-                (Ask::Seat(5, 0), done),
-                (Ask::Seat(5, 0), done),
-                (Ask::Seat(6, 0), Verdict::Refused(Refusal::Slot)),
-                (Ask::Remove(5), done),
-                (Ask::Set(5, 9, 8, 16, 0), Verdict::Refused(Refusal::Flags)),
-                (Ask::Set(5, 1, 0, 33, 0), Verdict::Refused(Refusal::Order)),
-                (Ask::Set(5, -1, 1, 33, 0), Verdict::Refused(Refusal::Beyond)),
-                (Ask::Set(5, -1, -1, 33, 0), Verdict::Refused(Refusal::Below)),
-                (Ask::Set(5, 0, 0, 33, 0), Verdict::Ignored),
-                (Ask::Remove(5), Verdict::Absent),
-                (Ask::Remove(2), Verdict::Refused(Refusal::Reserved)),
-            ],
-            &[],
-        ),
-        (
-            &[
-                (Ask::Replace(0, 0, "abcd"), done),
-                (Ask::Set(5, 0, 1, 17, 1), done),
-                (Ask::Set(6, 0, 1, 17, 2), done),
-                (Ask::Set(7, 1, 2, 33, 3), done),
-                (Ask::Set(5, 2, 3, 17, 3), done),
-                (Ask::Replace(1, 3, ""), done),
-            ],
-            &[(5, 1, 1, 17, 3), (6, 0, 1, 17, 2)],
-        ),
-    ];
-    for (cases, spans) in &scripts {
+    for (cases, spans) in &SCRIPTS {
         let mut text = SpannedText::new(alloc)?;
         plays(rt, alloc, &mut text, cases, &mut steps)?;
         has_spans(rt, &text, spans);
@@ -302,179 +303,7 @@ fn scripts<L: Ledger>(rt: &impl Abort, alloc: Global, blank: Blank) -> Result<()
     Ok(())
 }
 
-/// An edit of "ab\ncd", over which a span of the id 5 lies that may not be empty; its verdict, and the spans then.
-type Arrival<'a> = (Case<'a>, &'a [Tagged]);
-
-/// Incoming spans are attached where their ids are free and they may stand, and skipped elsewhere.
-fn arrivals<L: Ledger>(rt: &impl Abort, alloc: Global, blank: Blank) -> Result<(), NoMemory>
-    requires name { blank.name ≡ L.name }
-    requires parts { blank.parts ≡ L.parts }
-    requires some { 0 < blank.parts }
-{
-    let mut steps = Steps::<L>::start(blank);
-    let done = Verdict::Done;
-    let tag = What::Tag(1);
-    let reserved = Verdict::Refused(Refusal::Reserved);
-    let flags = Verdict::Refused(Refusal::Flags);
-    let before: &[Tagged] = &[(5, 1, 4, 33, 0)];
-    let five: [Case; 2] = [
-        (Ask::Replace(0, 0, "ab\ncd"), done),
-        (Ask::Set(5, 1, 4, 33, 0), done),
-    ];
-    let cases: [Arrival; 20] = [
-        // An id that is attached, an empty span that may not be, and an id that came before are skipped.
-        (
-            (
-                Ask::Bring(
-                    0,
-                    0,
-                    "xy",
-                    &[
-                        (7, 0, 2, 17, tag),
-                        (5, 0, 1, 17, tag),
-                        (8, 1, 1, 33, tag),
-                        (7, 1, 2, 17, tag),
-                        (8, 1, 1, 34, tag),
-                    ],
-                ),
-                done,
-            ),
-            &[(5, 3, 6, 33, 0), (7, 0, 2, 17, 1), (8, 1, 1, 34, 1)],
-        ),
-        // Places behind the units that come are clipped to them, though more text follows.
-        (
-            (
-                Ask::Bring(1, 1, "z", &[(9, 0, 7, 17, tag), (6, 2, 3, 34, tag)]),
-                done,
-            ),
-            &[(5, 2, 5, 33, 0), (9, 1, 2, 17, 1), (6, 2, 2, 34, 1)],
-        ),
-        (
-            (Ask::Bring(1, 1, "z", &[(9, 3, 7, 33, tag)]), done),
-            &[(5, 2, 5, 33, 0)],
-        ),
-        // A paragraph span stands at boundaries of the text that stands then.
-        (
-            (
-                Ask::Bring(
-                    3,
-                    3,
-                    "q\nr",
-                    &[
-                        (10, 0, 2, 51, tag),
-                        (11, 0, 3, 51, tag),
-                        (12, 1, 2, 51, tag),
-                    ],
-                ),
-                done,
-            ),
-            &[(5, 1, 7, 33, 0), (10, 3, 5, 51, 1)],
-        ),
-        (
-            (
-                Ask::Bring(5, 5, "e", &[(10, 1, 1, 51, tag), (11, 0, 1, 51, tag)]),
-                done,
-            ),
-            &[(5, 1, 4, 33, 0), (10, 6, 6, 51, 1)],
-        ),
-        (
-            (Ask::Bring(3, 5, "", &[(10, 0, 0, 51, tag)]), done),
-            &[(5, 1, 3, 33, 0), (10, 3, 3, 51, 1)],
-        ),
-        (
-            (
-                Ask::Bring(0, 1, "", &[(10, 0, 0, 51, tag), (11, 0, 0, 18, tag)]),
-                done,
-            ),
-            &[(5, 0, 3, 33, 0), (10, 0, 0, 51, 1), (11, 0, 0, 18, 1)],
-        ),
-        // The id of an emptied span is free.
-        (
-            (Ask::Bring(0, 5, "new", &[(5, 0, 3, 17, tag)]), done),
-            &[(5, 0, 3, 17, 1)],
-        ),
-        // The composing region comes last over all units that come, and not where none comes.
-        (
-            (Ask::Compose(1, 1, "z", &[(9, 0, 1, 17, tag)]), done),
-            &[(5, 2, 5, 33, 0), (9, 1, 2, 17, 1), (2, 1, 2, 289, 0)],
-        ),
-        (
-            (Ask::Compose(0, 5, "new", &[(5, 1, 9, 17, tag)]), done),
-            &[(5, 1, 3, 17, 1), (2, 0, 3, 289, 0)],
-        ),
-        ((Ask::Compose(0, 1, "", &[]), done), &[(5, 0, 3, 33, 0)]),
-        ((Ask::Compose(2, 2, "", &[]), Verdict::NoChange), before),
-        // Where nothing goes and no unit comes, a span that is attached is a change, and skipped ones are none.
-        (
-            (Ask::Bring(2, 2, "", &[(12, 0, 9, 17, tag)]), done),
-            &[(5, 1, 4, 33, 0), (12, 2, 2, 17, 1)],
-        ),
-        (
-            (
-                Ask::Bring(
-                    2,
-                    2,
-                    "",
-                    &[(13, 0, 9, 33, tag), (5, 0, 0, 17, tag), (14, 0, 0, 51, tag)],
-                ),
-                Verdict::NoChange,
-            ),
-            before,
-        ),
-        // What comes is judged before the places.
-        (
-            (
-                Ask::Bring(9, 1, "", &[(9, 0, 0, 16, tag), (2, 0, 0, 17, tag)]),
-                reserved,
-            ),
-            before,
-        ),
-        (
-            (
-                Ask::Bring(9, 1, "", &[(9, 0, 0, 17, tag), (8, 0, 0, 16, tag)]),
-                flags,
-            ),
-            before,
-        ),
-        (
-            (
-                Ask::Bring(0, 0, "a", &[(9, 0, 1, 17, What::Watch(0))]),
-                reserved,
-            ),
-            before,
-        ),
-        (
-            (
-                Ask::Bring(0, 0, "a", &[(9, 0, 1, 17, What::Composing)]),
-                reserved,
-            ),
-            before,
-        ),
-        (
-            (
-                Ask::Bring(9, 1, "", &[(9, 0, 0, 17, What::Face(3))]),
-                Verdict::Refused(Refusal::Order),
-            ),
-            before,
-        ),
-        (
-            (
-                Ask::Bring(0, -1, "", &[(9, 0, 0, 17, tag)]),
-                Verdict::Refused(Refusal::Order),
-            ),
-            before,
-        ),
-    ];
-    for (case, spans) in &cases {
-        let mut text = SpannedText::new(alloc)?;
-        plays(rt, alloc, &mut text, &five, &mut steps)?;
-        plays(rt, alloc, &mut text, &[*case], &mut steps)?;
-        has_spans(rt, &text, spans);
-    }
-    Ok(())
-}
-
-/// Each replacement has its verdict, and those that are done leave this text.
+/// Each replacement has its verdict, those that are done leave this text, and the last one the gap.
 fn edits<L: Ledger>(rt: &impl Abort, alloc: Global, blank: Blank) -> Result<(), NoMemory>
     requires name { blank.name ≡ L.name }
     requires parts { blank.parts ≡ L.parts }
@@ -497,8 +326,8 @@ fn edits<L: Ledger>(rt: &impl Abort, alloc: Global, blank: Blank) -> Result<(), 
     ];
     plays(rt, alloc, &mut text, &cases, &mut steps)?;
     let (left, right) = text.halves();
-    assert_eq!(rt; left, [104, 120, 121, 111].as_slice());
-    assert!(rt; right.is_empty());
+    assert_eq!(rt; left, [104, 120, 121].as_slice());
+    assert_eq!(rt; right, [111].as_slice());
     assert_eq!(rt; text.len(), 4);
     assert_eq!(rt; text.unit(1), 120);
     Ok(())
@@ -604,6 +433,43 @@ fn tells(rt: &impl Abort, change: &Change, numbers: [u32; 3], ids: [&[u32]; 3]) 
     );
 }
 
+/// What is told of edits, one behind the other.
+const TOLD: [Told<'static>; 12] = [
+    (Ask::Replace(0, 0, "abcd"), [0, 0, 4], [&[], &[], &[]]),
+    (Ask::Set(5, 0, 1, 17, 1), [0, 0, 0], [&[], &[], &[5]]),
+    (Ask::Set(6, 1, 2, 33, 2), [0, 0, 0], [&[], &[], &[6]]),
+    (Ask::Set(7, 3, 4, 34, 2), [0, 0, 0], [&[], &[], &[7]]),
+    (Ask::Set(6, 1, 2, 33, 2), [0, 0, 0], [&[], &[6], &[]]),
+    (Ask::Replace(1, 3, "z"), [1, 3, 1], [&[6], &[7], &[]]),
+    (Ask::Remove(6), [1, 3, 1], [&[6], &[7], &[]]),
+    (Ask::Set(7, 2, 1, 34, 2), [1, 3, 1], [&[6], &[7], &[]]),
+    (Ask::Remove(5), [0, 0, 0], [&[5], &[], &[]]),
+    (
+        Ask::Bring(
+            0,
+            0,
+            "y",
+            &[
+                (9, 0, 1, 17, What::Tag(1)),
+                (7, 0, 1, 17, What::Tag(1)),
+                (8, 0, 1, 17, What::Tag(1)),
+            ],
+        ),
+        [0, 0, 1],
+        [&[], &[7], &[9, 8]],
+    ),
+    (
+        Ask::Compose(1, 1, "v", &[(10, 0, 1, 17, What::Tag(1))]),
+        [1, 1, 1],
+        [&[], &[7], &[10, 2]],
+    ),
+    (
+        Ask::Compose(1, 2, "vw", &[]),
+        [1, 2, 2],
+        [&[], &[7, 10, 2], &[]],
+    ),
+];
+
 /// Each edit that is done is told of, and others leave what was told.
 fn changes<L: Ledger>(rt: &impl Abort, alloc: Global, blank: Blank) -> Result<(), NoMemory>
     requires name { blank.name ≡ L.name }
@@ -613,42 +479,7 @@ fn changes<L: Ledger>(rt: &impl Abort, alloc: Global, blank: Blank) -> Result<()
     let mut steps = Steps::<L>::start(blank);
     let mut text = SpannedText::new(alloc)?;
     tells(rt, text.change(), [0, 0, 0], [&[], &[], &[]]);
-    let told: [Told; 12] = [
-        (Ask::Replace(0, 0, "abcd"), [0, 0, 4], [&[], &[], &[]]),
-        (Ask::Set(5, 0, 1, 17, 1), [0, 0, 0], [&[], &[], &[5]]),
-        (Ask::Set(6, 1, 2, 33, 2), [0, 0, 0], [&[], &[], &[6]]),
-        (Ask::Set(7, 3, 4, 34, 2), [0, 0, 0], [&[], &[], &[7]]),
-        (Ask::Set(6, 1, 2, 33, 2), [0, 0, 0], [&[], &[6], &[]]),
-        (Ask::Replace(1, 3, "z"), [1, 3, 1], [&[6], &[7], &[]]),
-        (Ask::Remove(6), [1, 3, 1], [&[6], &[7], &[]]),
-        (Ask::Set(7, 2, 1, 34, 2), [1, 3, 1], [&[6], &[7], &[]]),
-        (Ask::Remove(5), [0, 0, 0], [&[5], &[], &[]]),
-        (
-            Ask::Bring(
-                0,
-                0,
-                "y",
-                &[
-                    (9, 0, 1, 17, What::Tag(1)),
-                    (7, 0, 1, 17, What::Tag(1)),
-                    (8, 0, 1, 17, What::Tag(1)),
-                ],
-            ),
-            [0, 0, 1],
-            [&[], &[7], &[9, 8]],
-        ),
-        (
-            Ask::Compose(1, 1, "v", &[(10, 0, 1, 17, What::Tag(1))]),
-            [1, 1, 1],
-            [&[], &[7], &[10, 2]],
-        ),
-        (
-            Ask::Compose(1, 2, "vw", &[]),
-            [1, 2, 2],
-            [&[], &[7, 10, 2], &[]],
-        ),
-    ];
-    for (ask, numbers, ids) in &told {
+    for (ask, numbers, ids) in &TOLD {
         let _ = edit(rt, alloc, &mut text, *ask, &mut steps)?;
         tells(rt, text.change(), *numbers, *ids);
     }
@@ -743,12 +574,6 @@ fn a_full_text_takes_a_unit_only_for_another(rt: HostRuntime) -> Result<(), Fail
 #[test]
 fn spans_stand_where_the_rules_take_them(rt: HostRuntime) -> Result<(), Fail> {
     scripts::<Brand>(&rt, rt.alloc(), Blank::new(1))?;
-    Ok(())
-}
-
-#[test]
-fn incoming_spans_are_attached_or_skipped(rt: HostRuntime) -> Result<(), Fail> {
-    arrivals::<Brand>(&rt, rt.alloc(), Blank::new(1))?;
     Ok(())
 }
 

@@ -20,6 +20,8 @@ ghost use Rattle.edit_model.specs.Rows.{spans_in};
 ghost use Rattle.text_cut.specs.Halves.{joined};
 ghost use Rattle.replace_engine.specs.Rows.{appended_by_set};
 ghost use Rattle.replace_engine.specs.Lines.{set_of};
+ghost use Rattle.replace_engine.specs.Work.{replaced_within};
+ghost use Rattle.std.specs.Int.{abs_diff};
 
 use crate::arriving::count_spans_then;
 use crate::changes::{Change, MovedRows};
@@ -27,20 +29,20 @@ use crate::exchanging::exchange_spans;
 use crate::judging::{AskedSpan, judge_remove, judge_replace, judge_set};
 use crate::places::place_of;
 use crate::queries::{next_edge, spans_over};
-use crate::room::{make_room, reserve_rows};
+use crate::room::reserve_rows;
 use crate::setting::{remove_row, set_row};
-use crate::splice::splice;
 use edit_base::{Incoming, Limits, NoMemory, Pick, SpanRow, Steps, Verdict, What};
 use edit_model::Step;
 use std::alloc::Global;
 use std::marker::Model;
 use std::sync::ledger::Ledger;
 use text_cut::{Cut, Halves, boundary_behind, coming_with};
+use utf16_gap::GapText;
 
 /// A text of at most 1,048,576 UTF-16 units, with its spans and what the last edit changed.
 #[derive(Drop)]
 pub struct SpannedText {
-    units: Vec<u16>,
+    units: GapText,
     /// In order of attachment; the order that a row carries here means nothing.
     rows: Vec<SpanRow>,
     change: Change,
@@ -56,23 +58,23 @@ impl Model for SpannedText {
     ghost Value = { Seen };
 
     ghost view = { λ it. record {
-      state = state_of it.units.items it.rows.items;
-      gap = length it.units.items;
+      state = state_of it.units.units it.rows.items;
+      gap = it.units.gap;
       effect = effect_of it.change;
-      spare_units = vec_capacity it.units - length it.units.items;
+      spare_units = it.units.spare;
       spare_spans = span_room (vec_capacity it.rows) it.change - length it.rows.items;
     } };
 
-    ghost invariant = { λ it. IsSound it.units.items it.rows.items it.change };
+    ghost invariant = { λ it. IsSound it.units.units it.rows.items it.change };
 }
 
-/// The text of these units as two halves. It is cut here alone, at its end.
-fn halves_of(units: &[u16]) -> Halves<'_>
-    requires { length units.now ≤ Limits.TEXT }
-    ensures joined { joined result ≡ units.now }
-    ensures cut { length result.left.now ≡ length units.now }
+/// The text of these units as two halves. They are made here alone.
+fn halves_of(units: &GapText) -> Halves<'_>
+    requires { length units.now.units ≤ Limits.TEXT }
+    ensures joined { joined result ≡ units.now.units }
+    ensures cut { length result.left.now ≡ units.now.gap }
 {
-    let (left, right) = units.split_at(units.len());
+    let (left, right) = units.halves();
     Halves { left, right }
 }
 
@@ -85,7 +87,7 @@ impl SpannedText {
         ensures well_formed { IfOk result (λ text. IsWellFormed text.state) }
     {
         Ok(SpannedText {
-            units: Vec::new(alloc),
+            units: GapText::new(alloc, 0)?,
             rows: Vec::new(alloc),
             change: Change {
                 start: 0,
@@ -104,7 +106,7 @@ impl SpannedText {
         ensures limit { result ≤ Limits.TEXT }
         ensures well_formed { IsWellFormed self.now.state }
     {
-        self.units.len() as u32
+        self.units.len()
     }
 
     /// The unit at a place.
@@ -112,7 +114,7 @@ impl SpannedText {
         requires { at < length self.now.state.units }
         ensures { result ≡ slice_index self.now.state.units at }
     {
-        self.units[at as usize]
+        self.units.unit(at)
     }
 
     /// Two slices whose joining is the text, cut at the gap place.
@@ -228,6 +230,7 @@ impl SpannedText {
             → OnOk result (self.new.state ≡ state_after self.old.state slots (Replace start end incoming.now)) }
         ensures effect { (slots : ℕ) → OnOk result (self.new.effect
             ≡ effect_after self.old.state slots (Replace start end incoming.now) self.old.effect) }
+        ensures gap { IfOk result (λ verdict. verdict ≡ Done → self.new.gap ≡ place start + length incoming.now.units) }
         ensures gap_stays { IfOk result (λ verdict. verdict ≢ Done → self.new.gap ≡ self.old.gap) }
         ensures err { OnErr result ((self.new.state ≡ self.old.state) × (self.new.effect ≡ self.old.effect)
             × (self.new.gap ≡ self.old.gap)) }
@@ -243,6 +246,13 @@ impl SpannedText {
         ensures spare_stays { OnErr result
             ((self.old.spare_units ≤ self.new.spare_units) × (self.old.spare_spans ≤ self.new.spare_spans)) }
 
+        // Within both spares it moves no more units than stand between the gap and the end of the range, writes those
+        // that come, and reads each span a few times at most.
+        ensures ticks { length incoming.now.units ≤ self.old.spare_units
+            → length (came_spans self.old.state (place start) (place end) incoming.now) ≤ self.old.spare_spans
+            → IfOk result (λ verdict. verdict ≡ Done
+            → steps.new ≤ steps.old + replaced_within self.old.gap end incoming.now (length self.old.state.spans)) }
+
         ensures well_formed { IsWellFormed self.new.state }
         ensures seated { (slots : ℕ) → IsSeated slots self.old.state.spans → IsSeated slots self.new.state.spans }
     {
@@ -250,7 +260,7 @@ impl SpannedText {
         let Verdict::Done = verdict else {
             return Ok(verdict);
         };
-        self.exchange(place_of(start), place_of(end), incoming)?;
+        self.exchange(place_of(start), place_of(end), incoming, steps)?;
         Ok(verdict)
     }
 
@@ -271,7 +281,13 @@ impl SpannedText {
 
     /// The units from `start` to `end` become the incoming ones, the spans with them, and the change says so. Without
     /// memory nothing changes, and none is asked for where the incoming units fit the spare ones and no span comes.
-    fn exchange(&mut self, start: u32, end: u32, incoming: &Incoming) -> Result<(), NoMemory>
+    fn exchange<L: Ledger>(
+        &mut self,
+        start: u32,
+        end: u32,
+        incoming: &Incoming,
+        steps: &mut Steps<L>,
+    ) -> Result<(), NoMemory>
         requires brought { IsBrought incoming.now }
         requires order { start ≤ end }
         requires within { end ≤ length self.old.state.units }
@@ -285,6 +301,8 @@ impl SpannedText {
             (came_spans self.old.state start end incoming.now)) }
         ensures err { OnErr result ((self.new.state ≡ self.old.state) × (self.new.effect ≡ self.old.effect)
             × (self.new.gap ≡ self.old.gap)) }
+        ensures gap { OnOk result (self.new.gap ≡ start + length incoming.now.units) }
+        ensures ticks { OnOk result (steps.new ≡ steps.old + abs_diff self.old.gap end + length incoming.now.units) }
         ensures room { length incoming.now.units ≤ self.old.spare_units → coming_spans incoming.now ≡ [] → IsOk result }
         ensures spare_units { OnOk result (self.old.spare_units ≤ self.new.spare_units + length incoming.now.units) }
         ensures spare_spans { OnOk result (self.old.spare_spans
@@ -294,8 +312,7 @@ impl SpannedText {
         ensures well_formed { IsWellFormed self.new.state }
         ensures seated { (slots : ℕ) → IsSeated slots self.old.state.spans → IsSeated slots self.new.state.spans }
     {
-        let kept = self.units.len() - (end - start) as usize;
-        make_room(&mut self.units, kept + incoming.units.len())?;
+        self.units.reserve(incoming.units.len() as u32)?;
         let coming = coming_with(incoming);
         let most = coming.len().min(Limits::SPANS as usize);
         reserve_rows(&mut self.rows, most, &mut self.change)?;
@@ -303,12 +320,10 @@ impl SpannedText {
         let boundary = boundary_behind(&text, &self.rows, start, end);
         let cut = Cut::new(&text, start, end, incoming.units.as_slice(), boundary);
         exchange_spans(&coming, &cut, &mut self.rows, &mut self.change);
-        splice(
-            &mut self.units,
-            start as usize,
-            end as usize,
-            incoming.units.as_slice(),
-        );
+        // There is room, so this succeeds.
+        let _ = self
+            .units
+            .replace(start, end, incoming.units.as_slice(), steps);
         Ok(())
     }
 

@@ -3,6 +3,7 @@
 
 mod asking;
 mod changing;
+mod cuts;
 mod judging;
 mod logging;
 mod round;
@@ -14,6 +15,7 @@ mod telling;
 #[cfg(test)]
 mod tests;
 
+pub use cuts::{after_by_any_cut, before_by_any_cut, changed_by_any_cut, span_by_any_cut};
 pub use edit_model::{Item, LogEntry, Logged};
 pub use round::{Log, Slots};
 pub use rounds::apply;

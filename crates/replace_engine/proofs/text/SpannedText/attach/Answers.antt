@@ -8,10 +8,10 @@ use Rattle.replace_engine.proofs.Sound.{formed_as, seated_as, spare_set}
 use Rattle.replace_engine.proofs.text.SpannedText.attach.Goals as goal
 
 -- the text before the edit, as the value shows it
-before : (c : goal.In_ok-set_row) → state_of c.self.inside.units.items c.self.inside.rows.items ≡ c.args.self.now.state
+before : (c : goal.In_ok-set_row) → state_of c.self.inside.units.units c.self.inside.rows.items ≡ c.args.self.now.state
 before c = ap (λ seen. seen.state) c.self.view_is
 
-after : (c : goal.In_ok-set_row) → state_of c.self.inside.units.items c.set_row.new.rows.items ≡ stepped c.args.self.now.state (set_of c.args.asked.now)
+after : (c : goal.In_ok-set_row) → state_of c.self.inside.units.units c.set_row.new.rows.items ≡ stepped c.args.self.now.state (set_of c.args.asked.now)
 unfolding stepped
 after c = search rules
 

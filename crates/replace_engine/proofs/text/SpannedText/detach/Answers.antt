@@ -9,10 +9,10 @@ use Rattle.replace_engine.proofs.Sound.{formed_as, seated_as, sound_with}
 use Rattle.replace_engine.proofs.text.SpannedText.detach.Goals as goal
 
 -- the text before the edit, as the value shows it
-before : (c : goal.After-remove_row) → state_of c.self.inside.units.items c.self.inside.rows.items ≡ c.args.self.now.state
+before : (c : goal.After-remove_row) → state_of c.self.inside.units.units c.self.inside.rows.items ≡ c.args.self.now.state
 before c = ap (λ seen. seen.state) c.self.view_is
 
-after : (c : goal.After-remove_row) → state_of c.self.inside.units.items c.remove_row.new.rows.items ≡ stepped c.args.self.now.state (step.Remove c.args.id)
+after : (c : goal.After-remove_row) → state_of c.self.inside.units.units c.remove_row.new.rows.items ≡ stepped c.args.self.now.state (step.Remove c.args.id)
 unfolding stepped
 after c = search rules
 

@@ -10,8 +10,8 @@ use Rattle.replace_engine.proofs.text.SpannedText.judge_replacement.Goals as goa
 
 pub returns-clause-verdict : goal.returns-clause-verdict
 returns-clause-verdict c =
-    let state : state_of (joined c.halves_of.result) c.deref-2.result.now ≡ c.args.self.now.state =
-    rw (c.halves_of.ensures.joined, c.deref.ensures.value, c.deref-2.ensures.value) (ap (λ seen. seen.state) c.self.view_is) in
+    let state : state_of (joined c.halves_of.result) c.deref.result.now ≡ c.args.self.now.state =
+    rw (c.halves_of.ensures.joined, c.deref.ensures.value) (ap (λ seen. seen.state) c.self.view_is) in
     λ slots. rw (← state, ← to_z-of_z w32 c.args.start c.ranges.start, ← to_z-of_z w32 c.args.end c.ranges.end) (c.judge_replace.ensures.verdict slots)
 
 passed : (c : goal.After-judge_replace) → c.judge_replace.result ≡ Done → Passes c.args.self.now.state c.args.start c.args.end c.args.incoming.now

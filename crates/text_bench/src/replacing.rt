@@ -1,0 +1,111 @@
+//! The replacements that are measured. None of them makes an incoming text of its own, and at a million units the gap
+//! that the text starts with has room for all that comes.
+
+ghost use Rattle.std.specs.Prelude.{◌≤◌};
+ghost use Rattle.edit_model.specs.Brought.{IsBrought};
+
+use crate::faults::Fault;
+use crate::making::{replace, units};
+use crate::random::Random;
+use crate::requests::Kind;
+use edit_base::{Incoming, Limits, Steps};
+use replace_engine::SpannedText;
+use std::alloc::Global;
+use std::sync::ledger::Ledger;
+
+/// Does so many replacements of a kind.
+pub fn replace_many<L: Ledger>(
+    alloc: Global,
+    text: &mut SpannedText,
+    kind: Kind,
+    count: u32,
+    steps: &mut Steps<L>,
+) -> Result<(), Fault> {
+    let one = units(alloc, 1)?;
+    let none = units(alloc, 0)?;
+    match kind {
+        Kind::Cursor => type_units(text, count, &one, &none, steps),
+        Kind::Anywhere => insert_anywhere(text, count, &one, steps),
+        Kind::Backspace => take_back(text, count, &none, steps),
+        Kind::Ends => jump(text, count, &one, steps),
+    }
+}
+
+// Units come at a cursor, which is told by the units behind it. Where the text is full, all that came goes at once: one
+// replacement more, at which no unit moves, since the gap stands at the cursor.
+fn type_units<L: Ledger>(
+    text: &mut SpannedText,
+    count: u32,
+    one: &Incoming,
+    none: &Incoming,
+    steps: &mut Steps<L>,
+) -> Result<(), Fault>
+    requires one { IsBrought one.now }
+    requires none { IsBrought none.now }
+{
+    let middle = text.len() / 2;
+    let behind = text.len() - middle;
+    for _ in 0..count {
+        if text.len() == Limits::TEXT {
+            replace(text, middle, Limits::TEXT - behind, none, steps)?;
+        }
+        let cursor = text.len().saturating_sub(behind);
+        replace(text, cursor, cursor, one, steps)?;
+    }
+    Ok(())
+}
+
+// Units come at places that are drawn.
+fn insert_anywhere<L: Ledger>(
+    text: &mut SpannedText,
+    count: u32,
+    one: &Incoming,
+    steps: &mut Steps<L>,
+) -> Result<(), Fault>
+    requires { IsBrought one.now }
+{
+    let mut random = Random::new();
+    for _ in 0..count {
+        let place = random.place(text.len());
+        replace(text, place, place, one, steps)?;
+    }
+    Ok(())
+}
+
+// Units before a cursor go, which is told by the units behind it.
+fn take_back<L: Ledger>(
+    text: &mut SpannedText,
+    count: u32,
+    none: &Incoming,
+    steps: &mut Steps<L>,
+) -> Result<(), Fault>
+    requires { IsBrought none.now }
+{
+    let behind = text.len() - text.len() / 2;
+    for _ in 0..count {
+        let cursor = text.len().saturating_sub(behind);
+        replace(text, cursor.saturating_sub(1), cursor, none, steps)?;
+    }
+    Ok(())
+}
+
+// The first unit and the last one become others, in turn.
+fn jump<L: Ledger>(
+    text: &mut SpannedText,
+    count: u32,
+    one: &Incoming,
+    steps: &mut Steps<L>,
+) -> Result<(), Fault>
+    requires { IsBrought one.now }
+{
+    let length = text.len();
+    for at in 0..count {
+        let start = if at % 2 == 0 {
+            0
+        } else {
+            length.saturating_sub(1)
+        };
+        replace(text, start, start + 1, one, steps)?;
+    }
+    Ok(())
+}
