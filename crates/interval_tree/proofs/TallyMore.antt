@@ -1,0 +1,112 @@
+-- The tally of one more row.
+use Rattle.std.proofs.Common.{◌≡◌, ℕ, ◌+◌, ◌<◌, ◌≤◌, ◌++◌, ◌&&◌, not, Bool, true, false, cond, List, [], ◌∷◌, suc, length}
+use Rattle.std.proofs.Common.{refl, sym, ap, ◌∙◌, length-append, append-nil, arith}
+use Rattle.std.specs.List.{All, filter, list_all, range_with_len}
+use Rattle.std.proofs.Math.Bool.{and-true}
+use Rattle.std.proofs.lemmas.List.Filters.{length-filter_both}
+use Rattle.std.proofs.lemmas.List.Folds.{list_all-append}
+use Rattle.std.proofs.lemmas.List.{get_or_append_left, map-id}
+use Rattle.std.proofs.Math.Seq.{get_or-append_seam}
+use Rattle.std.proofs.lemmas.List.Elements.{All-weaker, filter-append}
+use Rattle.std.proofs.lemmas.List.FromFn.{length-range_with_len, get_or-range_with_len, map-range_with_len_more}
+use Rattle.edit_model.specs.Over.{is_watch}
+use Rattle.span_table.specs.declared.kept.KeptRow.{KeptRow}
+use Rattle.span_table.specs.Table.{kept_at, no_row}
+use Rattle.interval_tree.specs.Kinds.{IsTally, is_ahead, is_paragraph_row, most_seats, paragraph_count, seats_of}
+
+-- ---- lists
+
+pub range_more : (a n : ℕ) → range_with_len a (n + 1) ≡ range_with_len a n ++ (a + n) ∷ []
+range_more a n =
+    sym (map-id (range_with_len a (n + 1))) ∙ map-range_with_len_more (λ x. x) a n (a + n) refl
+    ∙ ap (λ xs. xs ++ (a + n) ∷ []) (map-id (range_with_len a n))
+
+-- tests that agree on the elements of a list
+pub filter_alike : {X : Type 0} (p q : X → Bool) (xs : List X) → All (λ x. p x ≡ q x) xs → filter p xs ≡ filter q xs
+filter_alike p q [] alike = refl
+filter_alike p q (x ∷ xs) alike =
+    let here : p x ≡ q x = alike 0 x (omega arith) in
+    let rest = filter_alike p q xs (λ k d within. alike (suc k) d (omega arith)) in
+    rw (here, rest) refl
+
+pub below_range : (n : ℕ) → All (λ i. i < n) (range_with_len 0 n)
+below_range n k d within = let long = length-range_with_len 0 n in rw (get_or-range_with_len 0 n k d (omega arith)) (omega arith)
+
+-- ---- one more row
+
+one_or_none : (b : Bool) (row : KeptRow) → length (cond b (row ∷ []) []) ≡ cond b 1 0
+one_or_none true row = refl
+one_or_none false row = refl
+
+more_paragraphs : (kept : List KeptRow) (row : KeptRow) → paragraph_count (kept ++ row ∷ []) ≡ paragraph_count kept + cond (is_paragraph_row row) 1 0
+more_paragraphs kept row =
+    ap length (filter-append is_paragraph_row kept (row ∷ [])) ∙ length-append (filter is_paragraph_row kept) (filter is_paragraph_row (row ∷ []))
+    ∙ ap (λ n. paragraph_count kept + n) (one_or_none (is_paragraph_row row) row)
+
+more_seats : (kept : List KeptRow) (row : KeptRow) → seats_of (kept ++ row ∷ []) ≡ seats_of kept ++ cond (is_watch row.what) (length kept ∷ []) []
+more_seats kept row =
+    let all = kept ++ row ∷ [] in
+    let n = length kept in
+    let is_seat = λ (i : ℕ). is_watch (kept_at all i).what in
+    ap (λ count. filter is_seat (range_with_len 0 count)) (length-append kept (row ∷ []))
+    ∙ ap (filter is_seat) (range_more 0 n)
+    ∙ filter-append is_seat (range_with_len 0 n) ((0 + n) ∷ [])
+    ∙ ap (λ front. front ++ filter is_seat ((0 + n) ∷ [])) (filter_alike is_seat (λ i. is_watch (kept_at kept i).what) (range_with_len 0 n)
+    (All-weaker (λ i. i < n) (λ i. is_seat i ≡ is_watch (kept_at kept i).what)
+    (λ i h. ap (λ there. is_watch there.what) (get_or_append_left kept (row ∷ []) no_row i h)) (range_with_len 0 n) (below_range n)))
+    ∙ ap (λ i. seats_of kept ++ cond (is_watch (kept_at all i).what) (i ∷ []) []) (omega arith)
+    ∙ ap (λ there. seats_of kept ++ cond (is_watch there.what) (n ∷ []) []) (get_or-append_seam kept row [] no_row)
+
+module _ (kept : List KeptRow) (row : KeptRow) (paragraphs more : ℕ) (seats : List ℕ) (whole : Bool) (tally : IsTally kept paragraphs seats whole)
+    (one : more ≡ paragraphs + cond (is_paragraph_row row) 1 0) where
+  counted_more : more ≡ paragraph_count (kept ++ row ∷ [])
+  counted_more = one ∙ ap (λ n. n + cond (is_paragraph_row row) 1 0) tally.counted ∙ sym (more_paragraphs kept row)
+
+  pub no_seat : is_watch row.what ≡ false → IsTally (kept ++ row ∷ []) more seats whole
+  no_seat isnt =
+      let same : seats_of (kept ++ row ∷ []) ≡ seats_of kept =
+      more_seats kept row ∙ ap (λ b. seats_of kept ++ cond b (length kept ∷ []) []) isnt ∙ append-nil _ in
+      record { counted = counted_more; listed = λ is. tally.listed is ∙ sym same; many = λ is. rw same (tally.many is) }
+
+  pub seat_listed : (place : ℕ) (longer : List ℕ) → length kept ≡ place → is_watch row.what ≡ true → longer ≡ seats ++ place ∷ []
+      → IsTally (kept ++ row ∷ []) more longer whole
+  seat_listed place longer here is pushed =
+      let one_more : seats_of (kept ++ row ∷ []) ≡ seats_of kept ++ length kept ∷ [] =
+      more_seats kept row ∙ ap (λ b. seats_of kept ++ cond b (length kept ∷ []) []) is in
+      record {
+        counted = counted_more;
+        listed = λ all. pushed ∙ ap (λ xs. xs ++ place ∷ []) (tally.listed all) ∙ ap (λ i. seats_of kept ++ i ∷ []) (sym here) ∙ sym one_more;
+        many = λ some. rw (one_more, length-append) (let most = tally.many some in omega arith);
+      }
+
+  too_many : length seats ≡ most_seats → (b : Bool) → whole ≡ b → most_seats < length (seats_of kept) + 1
+  too_many full true is = let same = ap length (tally.listed is) in omega arith
+  too_many full false is = let most = tally.many is in omega arith
+
+  pub seat_left_out : (listed : List ℕ) → is_watch row.what ≡ true → length seats ≡ most_seats → IsTally (kept ++ row ∷ []) more listed false
+  seat_left_out listed is full =
+      let one_more : seats_of (kept ++ row ∷ []) ≡ seats_of kept ++ length kept ∷ [] =
+      more_seats kept row ∙ ap (λ b. seats_of kept ++ cond b (length kept ∷ []) []) is in
+      record {
+        counted = counted_more;
+        listed = λ all. absurd (cc);
+        many = λ some. rw (one_more, length-append) (too_many full whole refl);
+      }
+
+-- no more rows stand at boundaries than there are
+pub paragraphs_most : (kept : List KeptRow) → paragraph_count kept ≤ length kept
+paragraphs_most kept = omega (arith, length-filter_both is_paragraph_row (λ row. not (is_paragraph_row row)) (λ row. refl) kept)
+
+-- the row that is read at the end of a longer list
+pub row_added : (kept added : List KeptRow) (row read : KeptRow) (place : ℕ) → added ≡ kept ++ row ∷ [] → place ≡ length kept
+    → read ≡ kept_at added place → added ≡ kept ++ read ∷ []
+row_added kept added row read place is here reads =
+    let same : read ≡ row = reads ∙ ap (λ rows. kept_at rows place) is ∙ ap (kept_at (kept ++ row ∷ [])) here ∙ get_or-append_seam kept row [] no_row in
+    is ∙ ap (λ other. kept ++ other ∷ []) (sym same)
+
+-- rows that are ahead, and one more
+pub ahead_more : (kept added : List KeptRow) (row : KeptRow) (old new : Bool) → added ≡ kept ++ row ∷ [] → new ≡ (old && is_ahead row)
+    → old ≡ list_all is_ahead kept → new ≡ list_all is_ahead added
+ahead_more kept added row old new is both before =
+    both ∙ ap (λ b. b && is_ahead row) before ∙ ap (λ b. list_all is_ahead kept && b) (sym (and-true (is_ahead row)))
+    ∙ sym (ap (list_all is_ahead) is ∙ list_all-append is_ahead kept (row ∷ []))

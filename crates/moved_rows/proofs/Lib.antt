@@ -1,0 +1,5 @@
+pub mod Notes
+pub mod Shifts
+pub mod Landed
+pub mod Stands
+mod Inserted

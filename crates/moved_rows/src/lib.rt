@@ -1,0 +1,8 @@
+//! How rows moved at an edit, read as it is asked for.
+#![tactic(auto)]
+
+mod moved;
+mod moving;
+
+pub use moved::{MovedRow, MovedRows, MovedRowsIter};
+pub use moving::{insert_units, move_rows};
