@@ -1,12 +1,12 @@
 #!/usr/bin/env python3
-"""Times replacements themselves, without a trace that is read.
+"""Times replacements and queries themselves, without a trace that is read.
 
 usage: bench/edits.py [COUNT]      COUNT: how many of the replacements that move nothing are done (default 2000000)
 
-Runs the built program of crates/text_bench for each kind of replacement of a unit, at a million units with no span and
-with 4,096, and at 1,048,576 units from end to end, and prints the nanoseconds that one takes: the least of several runs
-less the least of as many that only set up the text. Of replacements that move much or read many spans fewer are done.
-Beside them stand the nanoseconds that are wanted, where there is such a figure.
+Runs the built program of crates/text_bench for each kind of replacement, at a million units with no span and with 4,096,
+and at 1,048,576 units from end to end, and for each query, and prints the nanoseconds that one takes: the least of
+several runs less the least of as many that only set up the text. Of replacements that move much or read many spans
+fewer are done. Beside them stand the nanoseconds that are wanted, where there is such a figure.
 """
 import pathlib
 import subprocess
@@ -24,17 +24,24 @@ def cases(count):
     yield "anywhere", UNITS, 0, few, "at most 60000"
     yield "backspace", UNITS, 0, min(count, UNITS // 2), None
     yield "ends", UNITS, 0, few, None
-    for kind in ("cursor", "anywhere", "backspace", "ends"):
-        yield kind, UNITS, MOST_SPANS, few, None
+    yield "cursor", UNITS, MOST_SPANS, count, "at most 200, as a first step 719"
+    yield "anywhere", UNITS, MOST_SPANS, few, "at most 160000"
+    # The spans of the units that go stand at the cursor from then on, more and more of them: each is moved each time.
+    yield "backspace", UNITS, MOST_SPANS, few, "at most 3000, as a first step 25000"
+    yield "ends", UNITS, MOST_SPANS, few, None
+    yield "pile", UNITS, MOST_SPANS, count, None
+    yield "clear", MOST_SPANS, MOST_SPANS, min(count, FEW // 10), None
+    yield "query", UNITS, MOST_SPANS, count, "at most 300"
+    yield "edge", UNITS, MOST_SPANS, few, "at most 10000"
     yield "ends", MOST_UNITS, 0, few, None
     yield "ends", MOST_UNITS, MOST_SPANS, few, None
 
 
 def length_after(kind, units, count):
     """How long the text is behind so many replacements. A cursor takes back what it brought once the text is full."""
-    if kind == "cursor":
+    if kind in ("cursor", "pile"):
         return units + (count - 1) % (MOST_UNITS - units) + 1 if count else units
-    return units + {"anywhere": count, "backspace": -count, "ends": 0}[kind]
+    return units + {"anywhere": count, "backspace": -count}.get(kind, 0)
 
 
 def seconds(kind, units, spans, count):
@@ -44,8 +51,8 @@ def seconds(kind, units, spans, count):
         start = time.perf_counter()
         run = subprocess.run([PROGRAM, kind, str(units), str(spans), str(count)], stdout=subprocess.PIPE, check=True)
         took.append(time.perf_counter() - start)
-        wanted = f"{length_after(kind, units, count)} units, {spans} spans\n"
-        if run.stdout.decode() != wanted:
+        wanted = f"{length_after(kind, units, count)} units, {spans} spans, "
+        if not run.stdout.decode().startswith(wanted):
             sys.exit(f"bench: {run.stdout.decode()!r} in place of {wanted!r}")
     return min(took)
 
@@ -59,7 +66,7 @@ def main():
         idle = seconds(kind, units, spans, 0)
         took = each[kind, units, spans] = 1e9 * (seconds(kind, units, spans, done) - idle) / done
         beside = f", wanted {wanted}" if wanted else ""
-        print(f"{kind}, {units} units, {spans} spans: {took:.0f} ns an edit{beside} (over {done}, set up in {idle:.3f} s)")
+        print(f"{kind}, {units} units, {spans} spans: {took:.0f} ns each{beside} (over {done}, set up in {idle:.3f} s)")
     for spans in (0, MOST_SPANS):
         most = max((it for it in each if it[2] == spans), key=each.get)
         print(f"with {spans} spans the worst case is {most[0]} at {most[1]} units")

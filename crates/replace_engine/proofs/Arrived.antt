@@ -15,9 +15,7 @@ use Rattle.edit_model.proofs.Newcomers.{newcomers-append, attached-newcomers}
 use Rattle.text_cut.specs.Halves.{joined}
 use Rattle.text_cut.specs.declared.cut.Cut.{Cut}
 use Rattle.edit_model.specs.Rows.{spans_in}
-use Rattle.replace_engine.specs.Moved.{is_emptied_row}
 use Rattle.replace_engine.specs.Arrivals.{arrivals, placed, stayed, text_then}
-use Rattle.edit_model.proofs.Tests.{list_any-map}
 use Rattle.replace_engine.proofs.Lists.{list_any-filter}
 
 module _ (cut : Cut) (attached : List Span) where
@@ -50,14 +48,12 @@ pub attached-arrivals : (cut : Cut) (id : ℕ) (attached : List Span) (spans : L
 attached-arrivals cut id attached spans = attached-newcomers (text_then cut) id attached (map (placed cut) spans)
 
 -- no more spans stay than there were
-pub length-stayed-le : (cut : Cut) (rows : List SpanRow) → length (stayed cut rows) ≤ length rows
-length-stayed-le cut rows =
-    let spans : List Span = spans_in rows in
+pub length-stayed-le : (cut : Cut) (spans : List Span) → length (stayed cut spans) ≤ length spans
+length-stayed-le cut spans =
     omega (
       arith,
       length-map (kept_spans cut.start cut.end cut.grown spans) (moved_span cut.start cut.end cut.grown (joined cut.text)),
       length-filter_both (is_emptied cut.start cut.end cut.grown) (λ span. not (is_emptied cut.start cut.end cut.grown span)) (λ span. refl) spans,
-      length-map rows span_of,
     )
 
 pub ruleset arrived = (attached-arrivals, length-stayed-le)
@@ -110,13 +106,12 @@ module _ (cut : Cut) (attached : List Span) (spans : List NewSpan) (i : ℕ) (d 
         ap length next_arrives ∙ length-append (arrivals cut attached (take i spans)) (arrivals cut now (get_or spans i d ∷ [])) in
         omega (arith, all, length-arrivals-take cut attached spans (i + 1))
 
--- an id stays attached where a row of it isn't emptied
-pub attached-stayed : (cut : Cut) (id : ℕ) (rows : List SpanRow)
-    → list_any (λ row. has_id id (span_of row) && not (is_emptied_row cut.start cut.end cut.grown row)) rows ≡ is_attached id (stayed cut rows)
-attached-stayed cut id rows =
-    sym (attached-map (moved_span cut.start cut.end cut.grown (joined cut.text)) (λ span. refl) id (kept_spans cut.start cut.end cut.grown (spans_in rows))
-    ∙ list_any-filter (has_id id) (λ span. not (is_emptied cut.start cut.end cut.grown span)) (spans_in rows)
-    ∙ list_any-map span_of (λ span. has_id id span && not (is_emptied cut.start cut.end cut.grown span)) rows)
+-- an id stays attached where a span of it isn't emptied
+pub attached-stayed : (cut : Cut) (id : ℕ) (spans : List Span)
+    → list_any (λ span. has_id id span && not (is_emptied cut.start cut.end cut.grown span)) spans ≡ is_attached id (stayed cut spans)
+attached-stayed cut id spans =
+    sym (attached-map (moved_span cut.start cut.end cut.grown (joined cut.text)) (λ span. refl) id (kept_spans cut.start cut.end cut.grown spans)
+    ∙ list_any-filter (has_id id) (λ span. not (is_emptied cut.start cut.end cut.grown span)) spans)
 
 -- as many rows stand as stood, and as came
 pub length-came : (new old : List SpanRow) (came : List Span) → spans_in new ≡ spans_in old ++ came → length new ≡ length old + length came

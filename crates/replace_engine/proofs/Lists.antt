@@ -1,15 +1,14 @@
 -- Lists of rows, and the spans that they stand for.
 use Rattle.std.proofs.Common.{◌≡◌, ℕ, ◌||◌, ◌&&◌, Bool, true, false, not, cond, List, [], ◌∷◌}
-use Rattle.std.proofs.Common.{map, refl, ap, ◌∙◌, ◌+◌, suc, ltb, length, Option, Some, None, arith, is_some}
+use Rattle.std.proofs.Common.{map, refl, sym, ap, ◌∙◌, ◌+◌, suc, ltb, length, Option, Some, None, arith, is_some}
 use Rattle.std.specs.List.{filter, list_any, position_or_len}
 use Rattle.std.proofs.lemmas.Bool.Decides.{nat_tests}
 use Rattle.std.proofs.lemmas.List.{length-map}
-use Rattle.edit_base.specs.declared.rows.SpanRow.{SpanRow}
 use Rattle.edit_model.specs.Attached.{has_id, is_attached}
-use Rattle.edit_model.specs.Rows.{span_of}
-use Rattle.edit_model.specs.Verdicts.{watches}
-use Rattle.edit_model.proofs.Tests.{list_any-map}
-use Rattle.edit_model.specs.Rows.{spans_in}
+use Rattle.span_table.specs.Table.{Rows, place_of, seen, spans_of}
+use Rattle.std.specs.Prelude.{IsOk, OnErr, OnOk, Result, Ok, Err}
+use Rattle.std.proofs.lemmas.Bool.{false≢true}
+use Rattle.edit_model.specs.State.{Span}
 
 module _ {X : Type 0} (test keep : X → Bool) where
   any_where : (kept : Bool) (x : X) (others : List X) (rest : Bool) → list_any test others ≡ rest
@@ -61,11 +60,24 @@ module _ {X : Type 0} (test : X → Bool) where
       → is_some found ≡ list_any test xs
   first_any found xs is = ap is_some is ∙ is_place (ltb (position_or_len test xs) (length xs)) (position_or_len test xs) ∙ first_within xs
 
-pub attached-rows : (id : ℕ) (rows : List SpanRow) → is_attached id (spans_in rows) ≡ list_any (λ row. has_id id (span_of row)) rows
-attached-rows id rows = list_any-map span_of (has_id id) rows
+-- no place has the id that isn't attached
+pub absent_place : (id : ℕ) (spans : List Span) → None ≡ place_of id spans → is_attached id spans ≡ false
+absent_place id spans is = sym (first_any (has_id id) None spans is)
 
-pub seats-rows : (id slot : ℕ) (rows : List SpanRow) → list_any (λ span. not (has_id id span) && watches slot span.what) (spans_in rows)
-    ≡ list_any (λ row. not (has_id id (span_of row)) && watches slot row.what) rows
-seats-rows id slot rows = list_any-map span_of (λ span. not (has_id id span) && watches slot span.what) rows
+-- rows with one gap are seen as one
+pub same_seen : (rows others : Rows) → rows.kept ≡ others.kept → rows.gap ≡ others.gap → rows.room ≡ others.room → spans_of rows ≡ spans_of others
+same_seen rows others kept gap room = rw (kept, gap, room) refl
+
+pub length-spans_of : (rows : Rows) → length (spans_of rows) ≡ length rows.kept
+length-spans_of rows = length-map rows.kept (seen rows.gap rows.room)
+
+-- what is so where a call succeeds is so where it does
+pub on_ok : {T E : Type 0} {P : Type 0} (answer : Result T E) → IsOk answer → OnOk answer P → P
+on_ok (Ok value) is on = on
+on_ok (Err error) is on = absurd (false≢true is)
+
+pub on_err : {T E : Type 0} {P : Type 0} (answer : Result T E) → P → OnErr answer P
+on_err (Ok value) holds = tt
+on_err (Err error) holds = holds
 
 pub ruleset lengths = (length-map)

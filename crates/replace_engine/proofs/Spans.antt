@@ -1,33 +1,33 @@
--- A row of distinct ids that is set or taken out at its place, as the spans that the rows stand for.
-use Rattle.std.proofs.Common.{◌≡◌, ℕ, ◌<◌, zero, suc, true, false, cond, List, [], ◌∷◌, map, length, get_or, refl, sym, ap, subst, ◌∙◌, arith, eq-eqb}
+-- A span of distinct ids that is set or taken out at its place.
+use Rattle.std.proofs.Common.{◌≡◌, ℕ, ◌<◌, zero, suc, true, false, cond, List, [], ◌∷◌, map, length, get_or, refl, sym, ap, subst, arith, eq-eqb, add-one, Some}
 use Rattle.std.proofs.Math.ListN.{set}
 use Rattle.std.specs.List.{AllByRecursion, remove}
-use Rattle.std.proofs.lemmas.Bool.{ne_eqb}
+use Rattle.std.proofs.lemmas.Bool.{ne_eqb, eqb-true}
 use Rattle.std.proofs.lemmas.List.Folds.{list_any_at}
+use Rattle.std.proofs.lemmas.List.Quantifiers.{position-Some}
 use Rattle.edit_base.specs.declared.rows.SpanRow.{SpanRow}
 use Rattle.edit_model.specs.State.{Span}
 use Rattle.edit_model.specs.Attached.{has_id, is_attached, with_span, without_span, spans_of}
 use Rattle.edit_model.specs.Changed.{Effect, shifts_by, set_effect, spans_effect}
-use Rattle.edit_model.specs.Rows.{span_of, spans_in, state_of}
+use Rattle.edit_model.specs.Rows.{spans_in}
 use Rattle.edit_model.specs.WellFormed.{HasDistinctIds}
 use Rattle.edit_model.proofs.SpanLists.{all_fail}
-use Rattle.replace_engine.specs.declared.changes.ToldRow.{ToldRow}
-use Rattle.replace_engine.specs.Moves.{told_shift, shift_between}
-use Rattle.replace_engine.proofs.Lists.{attached-rows}
+use Rattle.span_table.specs.Table.{no_span, place_of, span_at, without_at}
+use Rattle.moved_rows.specs.Moves.{Moves, moved_of}
 
 -- a change is what its numbers and lists say
-pub effect_from : {start old_end grown : ℕ} (removed : List SpanRow) (told : List ToldRow) (added : List SpanRow) (effect : Effect)
+pub effect_from : {start old_end grown : ℕ} (removed : List SpanRow) (moved : Moves) (added : List SpanRow) (effect : Effect)
     → start ≡ effect.start → old_end ≡ effect.old_end → grown ≡ effect.grown
-    → spans_in removed ≡ effect.removed → map told_shift told ≡ effect.moved → spans_in added ≡ effect.added
+    → spans_in removed ≡ effect.removed → moved_of moved ≡ effect.moved → spans_in added ≡ effect.added
     → record {
       start = start;
       old_end = old_end;
       grown = grown;
       removed = spans_in removed;
-      moved = map told_shift told;
+      moved = moved_of moved;
       added = spans_in added;
     } ≡ effect
-effect_from removed told added effect start old_end grown removed_is moved_is added_is = rw (start, old_end, grown, removed_is, moved_is, added_is) refl
+effect_from removed moved added effect start old_end grown removed_is moved_is added_is = rw (start, old_end, grown, removed_is, moved_is, added_is) refl
 
 -- ---- spans of other ids
 
@@ -51,58 +51,79 @@ module _ (id : ℕ) where
   pub absent_stay : (spans : List Span) → is_attached id spans ≡ false → without_span id spans ≡ spans
   absent_stay spans absent = none_go spans (all_fail (has_id id) spans absent)
 
-  -- ---- the row of the id
+  -- ---- the span of the id
 
-  attached_at : (rows : List SpanRow) (at : ℕ) (d : SpanRow) → at < length rows → (get_or rows at d).id ≡ id → is_attached id (spans_in rows) ≡ true
-  attached_at rows at d below is = attached-rows id rows ∙ list_any_at (λ row. has_id id (span_of row)) rows at d below (eq-eqb (get_or rows at d).id id is)
+  pub attached_at : (spans : List Span) (at : ℕ) (d : Span) → at < length spans → (get_or spans at d).id ≡ id → is_attached id spans ≡ true
+  attached_at spans at d below is = list_any_at (has_id id) spans at d below (eq-eqb (get_or spans at d).id id is)
 
-  -- a row before it has another id
-  before_at : (other : SpanRow) (rows : List SpanRow) (at : ℕ) (d : SpanRow) → is_attached other.id (spans_in rows) ≡ false → at < length rows
-      → (get_or rows at d).id ≡ id → has_id id (span_of other) ≡ false
-  before_at other rows at d absent below is =
+  -- a span before it has another id
+  before_at : (other : Span) (spans : List Span) (at : ℕ) (d : Span) → is_attached other.id spans ≡ false → at < length spans
+      → (get_or spans at d).id ≡ id → has_id id other ≡ false
+  before_at other spans at d absent below is =
       ne_eqb other.id id (λ same.
-      let attached = attached_at rows at d below is in
-      let absent_too = subst (λ other_id. is_attached other_id (spans_in rows) ≡ false) same absent in
+      let attached = attached_at spans at d below is in
+      let absent_too = subst (λ other_id. is_attached other_id spans ≡ false) same absent in
       cc)
 
-  -- the rows behind it have other ids
-  behind_at : (other : SpanRow) (rows : List SpanRow) → is_attached other.id (spans_in rows) ≡ false → other.id ≡ id
-      → AllByRecursion (λ span. has_id id span ≡ false) (spans_in rows)
-  behind_at other rows absent is = all_fail (has_id id) (spans_in rows) (subst (λ other_id. is_attached other_id (spans_in rows) ≡ false) is absent)
+  -- the spans behind it have other ids
+  behind_at : (other : Span) (spans : List Span) → is_attached other.id spans ≡ false → other.id ≡ id
+      → AllByRecursion (λ span. has_id id span ≡ false) spans
+  behind_at other spans absent is = all_fail (has_id id) spans (subst (λ other_id. is_attached other_id spans ≡ false) is absent)
 
-  replaced_at : (row : SpanRow) (rows : List SpanRow) (at : ℕ) (d : SpanRow) → HasDistinctIds (spans_in rows) → at < length rows → (get_or rows at d).id ≡ id
-      → spans_in (set rows at row) ≡ map (λ other. cond (has_id id other) (span_of row) other) (spans_in rows)
-  replaced_at row [] at d distinct below is = absurd (omega arith)
-  replaced_at row (other ∷ rows) zero d distinct below is =
+  pub replaced_at : (span : Span) (spans : List Span) (at : ℕ) (d : Span) → HasDistinctIds spans → at < length spans → (get_or spans at d).id ≡ id
+      → set spans at span ≡ map (λ other. cond (has_id id other) span other) spans
+  replaced_at span [] at d distinct below is = absurd (omega arith)
+  replaced_at span (other ∷ spans) zero d distinct below is =
       rw (eq-eqb other.id id is)
-      (ap (λ rest. span_of row ∷ rest) (sym (others_stay (span_of row) (spans_in rows) (behind_at other rows distinct.0 is))))
-  replaced_at row (other ∷ rows) (suc at) d distinct below is =
-      rw (before_at other rows at d distinct.0 (omega arith) is)
-      (ap (λ rest. span_of other ∷ rest) (replaced_at row rows at d distinct.1 (omega arith) is))
+      (ap (λ rest. span ∷ rest) (sym (others_stay span spans (behind_at other spans distinct.0 is))))
+  replaced_at span (other ∷ spans) (suc at) d distinct below is =
+      rw (before_at other spans at d distinct.0 (omega arith) is)
+      (ap (λ rest. other ∷ rest) (replaced_at span spans at d distinct.1 (omega arith) is))
 
-  pub found_at : (rows : List SpanRow) (at : ℕ) (d : SpanRow) → HasDistinctIds (spans_in rows) → at < length rows → (get_or rows at d).id ≡ id
-      → spans_of id (spans_in rows) ≡ span_of (get_or rows at d) ∷ []
+  pub found_at : (spans : List Span) (at : ℕ) (d : Span) → HasDistinctIds spans → at < length spans → (get_or spans at d).id ≡ id
+      → spans_of id spans ≡ get_or spans at d ∷ []
   found_at [] at d distinct below is = absurd (omega arith)
-  found_at (other ∷ rows) zero d distinct below is =
-      rw (eq-eqb other.id id is) (ap (λ rest. span_of other ∷ rest) (none_found (spans_in rows) (behind_at other rows distinct.0 is)))
-  found_at (other ∷ rows) (suc at) d distinct below is =
-      rw (before_at other rows at d distinct.0 (omega arith) is) (found_at rows at d distinct.1 (omega arith) is)
+  found_at (other ∷ spans) zero d distinct below is =
+      rw (eq-eqb other.id id is) (ap (λ rest. other ∷ rest) (none_found spans (behind_at other spans distinct.0 is)))
+  found_at (other ∷ spans) (suc at) d distinct below is =
+      rw (before_at other spans at d distinct.0 (omega arith) is) (found_at spans at d distinct.1 (omega arith) is)
 
-  pub taken_at : (rows : List SpanRow) (at : ℕ) (d : SpanRow) → HasDistinctIds (spans_in rows) → at < length rows → (get_or rows at d).id ≡ id
-      → spans_in (remove rows at) ≡ without_span id (spans_in rows)
+  pub taken_at : (spans : List Span) (at : ℕ) (d : Span) → HasDistinctIds spans → at < length spans → (get_or spans at d).id ≡ id
+      → remove spans at ≡ without_span id spans
   taken_at [] at d distinct below is = absurd (omega arith)
-  taken_at (other ∷ rows) zero d distinct below is = rw (eq-eqb other.id id is) (sym (none_go (spans_in rows) (behind_at other rows distinct.0 is)))
-  taken_at (other ∷ rows) (suc at) d distinct below is =
-      rw (before_at other rows at d distinct.0 (omega arith) is) (ap (λ rest. span_of other ∷ rest) (taken_at rows at d distinct.1 (omega arith) is))
+  taken_at (other ∷ spans) zero d distinct below is = rw (eq-eqb other.id id is) (sym (none_go spans (behind_at other spans distinct.0 is)))
+  taken_at (other ∷ spans) (suc at) d distinct below is =
+      rw (before_at other spans at d distinct.0 (omega arith) is) (ap (λ rest. other ∷ rest) (taken_at spans at d distinct.1 (omega arith) is))
 
--- ---- set
+-- the span at the place of an id
+pub record IsAtPlace (id : ℕ) (spans : List Span) (at : ℕ) : Type 0 where
+  pub within : at < length spans
+  pub id_is : (span_at spans at).id ≡ id
 
-module _ (row : SpanRow) (rows : List SpanRow) (at : ℕ) (d : SpanRow) (distinct : HasDistinctIds (spans_in rows)) (below : at < length rows)
-    (is : (get_or rows at d).id ≡ row.id) where
-  pub set_at : spans_in (set rows at row) ≡ with_span (span_of row) (spans_in rows)
-  set_at = rw (attached_at row.id rows at d below is) (replaced_at row.id row rows at d distinct below is)
+pub at_place : (id : ℕ) (spans : List Span) (at : ℕ) → place_of id spans ≡ Some at → IsAtPlace id spans at
+at_place id spans at is =
+    let found = position-Some (has_id id) spans at no_span is in
+    record { within = found.0; id_is = eqb-true _ _ found.1 }
 
-  pub set_effect_at : set_effect (state_of [] rows) (span_of row) ≡ spans_effect [] (shift_between (get_or rows at d) row ∷ []) []
-  set_effect_at =
-      rw (attached_at row.id rows at d below is)
-      (ap (λ found. spans_effect [] (shifts_by (λ other. span_of row) found) []) (found_at row.id rows at d distinct below is))
+module _ (id : ℕ) (spans : List Span) (at : ℕ) (distinct : HasDistinctIds spans) (is : place_of id spans ≡ Some at) where
+  pub taken_there : without_at at spans ≡ without_span id spans
+  taken_there =
+      let there = at_place id spans at is in
+      rw add-one (taken_at id spans at no_span distinct there.within there.id_is)
+
+  pub found_there : spans_of id spans ≡ span_at spans at ∷ []
+  found_there = let there = at_place id spans at is in found_at id spans at no_span distinct there.within there.id_is
+
+module _ (span : Span) (spans : List Span) (at : ℕ) (distinct : HasDistinctIds spans) (is : place_of span.id spans ≡ Some at) where
+  pub attached_there : is_attached span.id spans ≡ true
+  attached_there = let there = at_place span.id spans at is in attached_at span.id spans at no_span there.within there.id_is
+
+  pub set_there : set spans at span ≡ with_span span spans
+  set_there =
+      let there = at_place span.id spans at is in
+      rw attached_there (replaced_at span.id span spans at no_span distinct there.within there.id_is)
+
+  pub set_effect_there : (units : List ℕ) → set_effect (record { units = units; spans = spans }) span
+      ≡ spans_effect [] (record { from = span_at spans at; to = span } ∷ []) []
+  set_effect_there units =
+      rw attached_there (ap (λ found. spans_effect [] (shifts_by (λ other. span) found) []) (found_there span.id spans at distinct is))

@@ -7,7 +7,6 @@ use Rattle.edit_model.specs.Replaced.{spliced, stayed_spans}
 use Rattle.edit_model.specs.Brought.{placed_span, newcomers}
 use Rattle.text_cut.specs.declared.cut.Cut.{Cut}
 use Rattle.text_cut.specs.Halves.{joined}
-use Rattle.edit_model.specs.Rows.{state_of}
 
 -- the text that stands then
 abbrev pub text_then : Cut → List ℕ
@@ -21,9 +20,9 @@ placed cut span = placed_span cut.start (length cut.brought.now) span
 abbrev pub arrivals : Cut → List Span → List NewSpan → List Span
 arrivals cut attached spans = newcomers (text_then cut) attached (map (placed cut) spans)
 
--- the rows' spans that aren't emptied, where they go
-abbrev pub stayed : Cut → List SpanRow → List Span
-stayed cut rows = stayed_spans (state_of (joined cut.text) rows) cut.start cut.end cut.grown
+-- the spans that aren't emptied, where they go
+abbrev pub stayed : Cut → List Span → List Span
+stayed cut spans = stayed_spans (record { units = joined cut.text; spans = spans }) cut.start cut.end cut.grown
 
 -- both places lie among the units that come
 pub record IsAmong (cut : Cut) (row : SpanRow) : Type 0 where

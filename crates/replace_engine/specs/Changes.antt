@@ -2,7 +2,7 @@
 use Rattle.edit_model.specs.Changed.{Effect}
 use Rattle.edit_model.specs.Rows.{spans_in}
 use Rattle.replace_engine.specs.declared.changes.Change.{Change}
-use Rattle.replace_engine.specs.Moves.{moved_of}
+use Rattle.moved_rows.specs.Moves.{moved_of}
 
 -- its numbers, and the spans of its rows without their orders
 abbrev pub effect_of : Change → Effect

@@ -3,11 +3,10 @@ use Rattle.std.specs.Prelude.{ℤ, ◌++◌, ◌&&◌, ◌==◌, Bool, List, [],
 use Rattle.edit_base.specs.declared.bounds.TheConstants.Limits.{TEXT, SPANS}
 use Rattle.edit_base.specs.declared.rows.Incoming.{Incoming}
 use Rattle.edit_base.specs.declared.rows.NewSpan.{NewSpan}
-use Rattle.edit_base.specs.declared.rows.SpanRow.{SpanRow}
 use Rattle.edit_base.specs.declared.verdicts.Verdict.{Verdict}
 use Rattle.edit_base.specs.declared.verdicts.Verdict.TheVariants.{NoChange, Ignored, Refused}
 use Rattle.edit_base.specs.declared.verdicts.Refusal.TheVariants.{Order, Beyond, Below, ParagraphStart, ParagraphEnd, TooLong, SpansFull}
-use Rattle.edit_model.specs.State.{State}
+use Rattle.edit_model.specs.State.{Span, State}
 use Rattle.edit_model.specs.Verdicts.{goes_beyond, goes_below, breaks_paragraph, is_ignored, changes_nothing, length_after, span_count_after_set, span_count_then}
 use Rattle.edit_model.specs.declared.steps.Step.{Step}
 use Rattle.edit_model.specs.declared.steps.Step.TheVariants as step
@@ -39,10 +38,10 @@ place_lines state asked =
 -- ---- replacements
 
 -- of a text that isn't too long then
-abbrev pub span_lines : Cut → List SpanRow → List NewSpan → List (Bool × Verdict)
-span_lines cut rows spans =
-    (cut.start == cut.end && cut.grown == 0 && length (arrivals cut (stayed cut rows) spans) == 0, NoChange)
-    ∷ (nat_lt SPANS (length (stayed cut rows ++ arrivals cut (stayed cut rows) spans)), Refused SpansFull)
+abbrev pub span_lines : Cut → List Span → List NewSpan → List (Bool × Verdict)
+span_lines cut attached spans =
+    (cut.start == cut.end && cut.grown == 0 && length (arrivals cut (stayed cut attached) spans) == 0, NoChange)
+    ∷ (nat_lt SPANS (length (stayed cut attached ++ arrivals cut (stayed cut attached) spans)), Refused SpansFull)
     ∷ []
 
 -- behind the tests of what comes and of the places

@@ -1,41 +1,55 @@
 -- The rows and the change that a text with spans keeps.
 use Rattle.std.specs.Prelude.{ℕ, ◌≡◌, ◌+◌, ◌≤◌, List, length, min, vec_capacity, if◌then◌else◌}
-use Rattle.edit_base.specs.declared.rows.SpanRow.{SpanRow}
 use Rattle.replace_engine.specs.declared.changes.Change.{Change}
-use Rattle.edit_model.specs.State.{Span}
+use Rattle.edit_model.specs.State.{Span, State}
 use Rattle.edit_model.specs.Attached.{is_attached}
-use Rattle.edit_model.specs.Rows.{spans_in, state_of}
 use Rattle.edit_model.specs.WellFormed.{IsWellFormed}
-use Rattle.replace_engine.specs.Moves.{ArePlaced}
+use Rattle.span_table.specs.Table.{Rows, spans_of}
+use Rattle.moved_rows.specs.Moves.{ArePlaced}
 
--- each list of a change has room for so many rows
-pub record HasRoom (count : ℕ) (change : Change) : Type 0 where
+-- the state of a text and rows
+abbrev pub state_with : List ℕ → Rows → State
+state_with units rows = record { units = units; spans = spans_of rows }
+
+-- the length of the gap that the spans see, with the units of the text
+abbrev pub whole : ℕ
+whole = 2097152
+
+-- the list of touched rows, and each list of a change, have room for so many rows
+pub record HasRoom (count touched : ℕ) (change : Change) : Type 0 where
+  pub rows : count ≤ touched
   pub removed : count ≤ vec_capacity change.removed
-  pub moved : count ≤ change.moved.room
   pub added : count ≤ vec_capacity change.added
 
 -- no list of a change has less room than before
 pub record KeepsRoom (old new : Change) : Type 0 where
   pub removed : vec_capacity old.removed ≤ vec_capacity new.removed
-  pub moved : old.moved.room ≤ new.moved.room
   pub added : vec_capacity old.added ≤ vec_capacity new.added
 
--- how many rows fit where so many fit, and in each list of a change
+-- how many rows fit where so many touched rows fit, and in each list of a change
 abbrev pub span_room : ℕ → Change → ℕ
-span_room rows change = min (min rows (vec_capacity change.removed)) (min change.moved.room (vec_capacity change.added))
+span_room touched change =
+    min (min touched (length change.moved.rows.kept + change.moved.rows.spare)) (min (vec_capacity change.removed) (vec_capacity change.added))
 
 -- the rows that stood come before those that were added, and each that is told of went to its place
-pub record IsTold (rows : List SpanRow) (change : Change) : Type 0 where
-  pub stood : change.moved.stood + length change.added.items ≡ length rows
-  pub placed : ArePlaced (spans_in rows) change.moved
+pub record IsTold (change : Change) : Type 0 where
+  pub stood : length change.moved.before + length change.added.items ≡ length change.moved.rows.kept
+  pub placed : ArePlaced (spans_of change.moved.rows) change.moved
 
--- what holds of every text with spans: its state is well formed, and an edit of one span or all can be told,
--- and the last one was
-pub record IsSound (units : List ℕ) (rows : List SpanRow) (change : Change) : Type 0 where
-  pub formed : IsWellFormed (state_of units rows)
-  pub room : HasRoom (length rows) change
-  pub told : IsTold rows change
+-- what holds of every text with spans: its state is well formed, an edit of one span or all can be told, the last one
+-- was, and the rows see the text's gap
+pub record IsSound (units : List ℕ) (gap touched : ℕ) (change : Change) : Type 0 where
+  pub formed : IsWellFormed (state_with units change.moved.rows)
+  pub room : HasRoom (length change.moved.rows.kept) touched change
+  pub told : IsTold change
+  pub place : change.moved.rows.gap ≡ gap
+  pub width : change.moved.rows.room + length units ≡ whole
 
 -- how many spans a set of this id appends
 abbrev pub appended_by_set : ℕ → List Span → ℕ
 appended_by_set id spans = if is_attached id spans then 0 else 1
+
+-- the gap that rows see stays
+pub record SeesGap (old new : Rows) : Type 0 where
+  pub gap : new.gap ≡ old.gap
+  pub room : new.room ≡ old.room

@@ -2,60 +2,15 @@
 
 ghost use Rattle.std.specs.Prelude.{◌≡◌, ◌<◌};
 
-use crate::changes::{MovedRow, MovedRows};
 use crate::tests::{Ask, edit};
 use crate::text::SpannedText;
-use edit_base::{NoMemory, SpanRow, Steps, What};
+use edit_base::{NoMemory, Steps, What};
+use moved_rows::{MovedRow, MovedRows};
 use std::alloc::Global;
 use std::marker::Brand;
 use std::process::Abort;
 use std::sync::ledger::{Blank, Ledger};
 use std::test::Fail;
-
-/// A row of a tag.
-fn row(id: u32, start: u32, end: u32) -> SpanRow {
-    SpanRow {
-        id,
-        start,
-        end,
-        flags: 17,
-        order: 0,
-        what: What::Tag(id),
-    }
-}
-
-/// Of five rows that stood, the second and the last moved.
-fn reads<L: Ledger>(rt: &impl Abort, alloc: Global, blank: Blank) -> Result<(), NoMemory>
-    requires name { blank.name ≡ L.name }
-    requires parts { blank.parts ≡ L.parts }
-    requires some { 0 < blank.parts }
-{
-    let mut steps = Steps::<L>::start(blank);
-    let second = MovedRow {
-        from: row(5, 1, 2),
-        to: row(5, 2, 3),
-    };
-    let last = MovedRow {
-        from: row(8, 4, 6),
-        to: row(8, 4, 7),
-    };
-    let mut moved = MovedRows::new(alloc);
-    moved.reserve(5)?;
-    moved.pass(1);
-    moved.tell(&second.from, &second.to);
-    moved.pass(2);
-    moved.tell(&last.from, &last.to);
-    assert_eq!(rt; moved.count(), 5);
-    let answers = [None, Some(second), None, None, Some(last)];
-    for (i, answer) in answers.iter().enumerate() {
-        assert_eq!(rt; moved.at(i as u32, &mut steps), *answer, "{i}");
-    }
-    assert!(rt; moved.iter().eq([second, last].iter().copied()));
-    moved.clear();
-    assert_eq!(rt; moved.count(), 0);
-    assert!(rt; moved.iter().next().is_none());
-    Ok(())
-}
 
 /// An edit, and of each row that stood its id, its places before and its places after, where it is told of.
 type Moves<'a> = (Ask<'a>, &'a [Option<[u32; 5]>]);
@@ -98,15 +53,94 @@ const MOVES: [Moves<'static>; 14] = [
     ),
 ];
 
+/// A span of each kind under edits at the gap, a place before it, at both ends of the text, and of the boundary that one
+/// stands at.
+const KINDS: [Moves<'static>; 13] = [
+    (Ask::Replace(0, 0, "ab\ncd\n"), &[]),
+    (Ask::Set(11, 2, 4, 0x11, 0), &[]),
+    (Ask::Set(12, 2, 4, 0x12, 0), &[None]),
+    (Ask::Set(13, 2, 4, 0x21, 0), &[None, None]),
+    (Ask::Set(14, 2, 4, 0x22, 0), &[None, None, None]),
+    (Ask::Set(15, 3, 6, 0x33, 0), &[None, None, None, None]),
+    (
+        Ask::Replace(4, 4, "x"),
+        &[
+            None,
+            Some([12, 2, 4, 2, 5]),
+            None,
+            Some([14, 2, 4, 2, 5]),
+            Some([15, 3, 6, 3, 7]),
+        ],
+    ),
+    (
+        Ask::Replace(5, 5, "y"),
+        &[
+            None,
+            Some([12, 2, 5, 2, 6]),
+            None,
+            Some([14, 2, 5, 2, 6]),
+            Some([15, 3, 7, 3, 8]),
+        ],
+    ),
+    (
+        Ask::Replace(4, 5, ""),
+        &[
+            None,
+            Some([12, 2, 6, 2, 5]),
+            None,
+            Some([14, 2, 6, 2, 5]),
+            Some([15, 3, 8, 3, 7]),
+        ],
+    ),
+    (
+        Ask::Replace(3, 5, "zz"),
+        &[
+            Some([11, 2, 4, 2, 3]),
+            None,
+            Some([13, 2, 4, 2, 3]),
+            None,
+            None,
+        ],
+    ),
+    (
+        Ask::Replace(0, 0, "w"),
+        &[
+            Some([11, 2, 3, 3, 4]),
+            Some([12, 2, 5, 3, 6]),
+            Some([13, 2, 3, 3, 4]),
+            Some([14, 2, 5, 3, 6]),
+            Some([15, 3, 7, 4, 8]),
+        ],
+    ),
+    (
+        Ask::Replace(8, 8, "v"),
+        &[None, None, None, None, Some([15, 4, 8, 4, 9])],
+    ),
+    (
+        Ask::Replace(3, 4, ""),
+        &[
+            Some([11, 3, 4, 3, 3]),
+            Some([12, 3, 6, 3, 5]),
+            Some([14, 3, 6, 3, 5]),
+            Some([15, 4, 9, 7, 8]),
+        ],
+    ),
+];
+
 /// Each edit, one behind the other, tells so of the rows that stood, by place and in order.
-fn moves<L: Ledger>(rt: &impl Abort, alloc: Global, blank: Blank) -> Result<(), NoMemory>
+fn moves<L: Ledger>(
+    rt: &impl Abort,
+    alloc: Global,
+    table: &[Moves<'_>],
+    blank: Blank,
+) -> Result<(), NoMemory>
     requires name { blank.name ≡ L.name }
     requires parts { blank.parts ≡ L.parts }
     requires some { 0 < blank.parts }
 {
     let mut steps = Steps::<L>::start(blank);
     let mut text = SpannedText::new(alloc)?;
-    for (ask, rows) in &MOVES {
+    for (ask, rows) in table {
         let _ = edit(rt, alloc, &mut text, *ask, &mut steps)?;
         tells_rows(rt, &text.change().moved, rows, &mut steps);
     }
@@ -144,7 +178,7 @@ fn places_of(row: &MovedRow) -> [u32; 5] {
 
 #[test]
 fn changes_tell_of_moved_rows_by_place_and_in_order(rt: HostRuntime) -> Result<(), Fail> {
-    reads::<Brand>(&rt, rt.alloc(), Blank::new(1))?;
-    moves::<Brand>(&rt, rt.alloc(), Blank::new(1))?;
+    moves::<Brand>(&rt, rt.alloc(), &MOVES, Blank::new(1))?;
+    moves::<Brand>(&rt, rt.alloc(), &KINDS, Blank::new(1))?;
     Ok(())
 }

@@ -1,47 +1,91 @@
 //! What a replacement makes of the spans.
 
-ghost use Rattle.std.specs.Prelude.{Some, ◌≡◌, ◌≤◌, ◌+◌, ◌++◌, true, length, vec_capacity};
-ghost use Rattle.std.specs.List.{All};
-ghost use Rattle.edit_base.specs.declared.bounds.TheConstants.Limits.{SPANS};
-ghost use Rattle.edit_model.specs.Boundaries.{next_boundary};
+ghost use Rattle.std.specs.Prelude.{◌≡◌, ◌≤◌, ◌+◌, ◌-◌, ◌*◌, ◌++◌, length, vec_capacity};
+ghost use Rattle.edit_base.specs.declared.bounds.TheConstants.Limits.{SPANS, TEXT};
 ghost use Rattle.edit_model.specs.Changed.{replaced_effect};
-ghost use Rattle.replace_engine.specs.Changes.{effect_of};
-ghost use Rattle.text_cut.specs.Coming.{all_coming};
-ghost use Rattle.replace_engine.specs.Arrivals.{arrivals, stayed};
+ghost use Rattle.edit_model.specs.Replaced.{spliced_length};
+ghost use Rattle.edit_model.specs.WellFormed.{IsWellFormed};
 ghost use Rattle.text_cut.specs.Halves.{joined};
-ghost use Rattle.text_cut.specs.Pulled.{pulls_one};
-ghost use Rattle.replace_engine.specs.Moved.{IsRowOver};
-ghost use Rattle.edit_model.specs.Rows.{spans_in, state_of};
-ghost use Rattle.replace_engine.specs.Rows.{HasRoom, IsTold, KeepsRoom};
+ghost use Rattle.span_table.specs.Table.{spans_of};
+ghost use Rattle.replace_engine.specs.Changes.{effect_of};
+ghost use Rattle.replace_engine.specs.Exchange.{comes, stays};
+ghost use Rattle.replace_engine.specs.Rows.{HasRoom, IsTold, KeepsRoom, state_with, whole};
 
 use crate::arriving::attach_coming;
 use crate::changes::Change;
-use crate::moving::move_spans;
-use edit_base::SpanRow;
-use text_cut::{Coming, Cut};
+use crate::moving::{drop_emptied, move_spans, touch};
+use edit_base::{SpanRow, Steps};
+use std::sync::ledger::Ledger;
+use text_cut::{Coming, Cut, Halves, boundary_behind};
 
-/// Emptied spans go, every other end moves, the spans that come stand behind them, and the change says so.
-pub fn exchange_spans(coming: &Coming, cut: &Cut, rows: &mut Vec<SpanRow>, change: &mut Change)
-    requires few { length (spans_in rows.old.items) ≤ SPANS }
-    requires told { HasRoom (length rows.old.items) change.old }
-    requires over { All (IsRowOver (length (joined cut.now.text))) rows.old.items }
-    requires boundary { pulls_one cut.now.start cut.now.end (spans_in rows.old.items) ≡ true
-        → cut.now.boundary ≡ Some (next_boundary (joined cut.now.text) cut.now.end) }
-    requires room { length rows.old.items
-        + length (arrivals cut.now (stayed cut.now rows.old.items) (all_coming coming.now)) ≤ vec_capacity rows.old }
-    requires added { length (arrivals cut.now (stayed cut.now rows.old.items) (all_coming coming.now))
-        ≤ vec_capacity change.old.added }
-    ensures rows { spans_in rows.new.items
-        ≡ stayed cut.now rows.old.items ++ arrivals cut.now (stayed cut.now rows.old.items) (all_coming coming.now) }
-    ensures effect { effect_of change.new
-        ≡ replaced_effect (state_of (joined cut.now.text) rows.old.items) cut.now.start cut.now.end cut.now.grown
-        (arrivals cut.now (stayed cut.now rows.old.items) (all_coming coming.now)) }
-    ensures tells { IsTold rows.new.items change.new }
-    ensures count { length rows.new.items
-        ≤ length rows.old.items + length (arrivals cut.now (stayed cut.now rows.old.items) (all_coming coming.now)) }
-    ensures capacity { vec_capacity rows.old ≤ vec_capacity rows.new }
+/// A replacement of the units from `start` to `end` by these, with the spans that come.
+#[derive(Clone, Copy)]
+pub struct Exchange<'a> {
+    pub text: Halves<'a>,
+    pub start: u32,
+    pub end: u32,
+    pub brought: &'a [u16],
+    pub coming: Coming<'a>,
+}
+
+/// Emptied spans go, every other end moves, the spans that come stand behind them, and the change says so. `touched`
+/// has room for all rows.
+pub fn exchange_spans<L: Ledger>(
+    asked: &Exchange,
+    touched: &mut Vec<SpanRow>,
+    change: &mut Change,
+    steps: &mut Steps<L>,
+)
+    requires order { asked.now.start ≤ asked.now.end }
+    requires within { asked.now.end ≤ length (joined asked.now.text) }
+    requires short { spliced_length (length (joined asked.now.text)) asked.now.start asked.now.end
+        (length asked.now.brought.now) ≤ TEXT }
+    requires formed { IsWellFormed (state_with (joined asked.now.text) change.old.moved.rows) }
+    requires width { change.old.moved.rows.room + length (joined asked.now.text) ≡ whole }
+    requires room { HasRoom (length change.old.moved.rows.kept) (vec_capacity touched.old) change.old }
+    requires few { length (stays asked.now (spans_of change.old.moved.rows)
+        ++ comes asked.now (spans_of change.old.moved.rows)) ≤ SPANS }
+    requires spare { length (comes asked.now (spans_of change.old.moved.rows)) ≤ change.old.moved.rows.spare }
+    requires added { length (comes asked.now (spans_of change.old.moved.rows)) ≤ vec_capacity change.old.added }
+    ensures rows { spans_of change.new.moved.rows
+        ≡ stays asked.now (spans_of change.old.moved.rows) ++ comes asked.now (spans_of change.old.moved.rows) }
+    ensures effect { effect_of change.new ≡ replaced_effect (state_with (joined asked.now.text) change.old.moved.rows)
+        asked.now.start asked.now.end (length asked.now.brought.now)
+        (comes asked.now (spans_of change.old.moved.rows)) }
+    ensures tells { IsTold change.new }
+    ensures gap { change.new.moved.rows.gap ≡ asked.now.start + length asked.now.brought.now }
+    ensures gap_room { change.new.moved.rows.room + length asked.now.brought.now
+        ≡ change.old.moved.rows.room + (asked.now.end - asked.now.start) }
+    ensures count { length change.new.moved.rows.kept
+        ≤ length change.old.moved.rows.kept + length (comes asked.now (spans_of change.old.moved.rows)) }
+    ensures left { length change.old.moved.rows.kept + change.old.moved.rows.spare
+        ≤ length change.new.moved.rows.kept + change.new.moved.rows.spare }
+    ensures touched { vec_capacity touched.old ≤ vec_capacity touched.new }
     ensures lists { KeepsRoom change.old change.new }
+    ensures more { steps.old ≤ steps.new }
+    ensures ticks { steps.new ≤ steps.old + 6 * length change.old.moved.rows.kept }
 {
-    move_spans(rows, cut, change);
-    attach_coming(coming, cut, rows, &mut change.added);
+    let Exchange {
+        text,
+        start,
+        end,
+        brought,
+        coming,
+    } = *asked;
+    change.start(start, end, brought.len() as u32);
+    change.moved.bring_gap(end);
+    drop_emptied(
+        &mut change.moved,
+        start,
+        end,
+        brought.len() as u32,
+        touched,
+        &mut change.removed,
+        steps,
+    );
+    touch(&change.moved, start, end, text.len(), touched, steps);
+    let boundary = boundary_behind(&text, touched, start, end);
+    let cut = Cut::new(&text, start, end, brought, boundary);
+    move_spans(&cut, touched, &mut change.moved);
+    attach_coming(&coming, &cut, &mut change.moved, &mut change.added);
 }

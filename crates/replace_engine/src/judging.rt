@@ -8,11 +8,12 @@ ghost use Rattle.edit_model.specs.State.{Span, place};
 ghost use Rattle.edit_model.specs.Attached.{has_id, is_attached};
 ghost use Rattle.edit_model.specs.Boundaries.{is_boundary};
 ghost use Rattle.edit_model.specs.Flags.{is_bad, kind_of, is_paragraph, is_point_mark};
-ghost use Rattle.edit_model.specs.Replaced.{spliced_length};
+ghost use Rattle.edit_model.specs.Rows.{span_of};
 ghost use Rattle.edit_model.specs.Verdicts.{first_of, is_reserved, judged, lacks_slot, span_count_after_set, watches};
 ghost use Rattle.edit_model.specs.Over.{is_watch};
 ghost use Rattle.edit_model.specs.WellFormed.{is_kept_what};
-ghost use Rattle.edit_model.specs.Rows.{spans_in, state_of};
+ghost use Rattle.span_table.specs.Table.{spans_of};
+ghost use Rattle.replace_engine.specs.Rows.{state_with};
 ghost use Rattle.edit_base.specs.declared.bounds.TheConstants.Limits.{SPANS};
 ghost use Rattle.text_cut.specs.Halves.{joined};
 ghost use Rattle.text_cut.specs.Coming.{all_coming};
@@ -20,9 +21,10 @@ ghost use Rattle.replace_engine.specs.Arrivals.{stayed};
 ghost use Rattle.replace_engine.specs.Lines.{kind_lines, place_lines, replacement_lines, exchange_lines, span_lines};
 
 use crate::arriving::{count_coming, count_kept};
-use crate::ids::place_of_id;
 use crate::places::place_of;
+use crate::reading::row_at;
 use edit_base::{Incoming, Limits, NewSpan, Refusal, SpanRow, Verdict, What};
+use interval_tree::SpanIndex;
 use span_flags::{flags_of, is_paragraph, is_point_mark, is_watch, kind_of_word};
 use text_cut::{Coming, Cut, Halves, coming_with, is_boundary};
 
@@ -40,14 +42,14 @@ pub struct AskedSpan {
 #[tactic(auto, unfolding(edit_model::specs::Verdicts::judged))]
 pub fn judge_replace(
     text: &Halves,
-    rows: &[SpanRow],
+    rows: &SpanIndex,
     start: i32,
     end: i32,
     incoming: &Incoming,
 ) -> Verdict
-    requires spans { length rows.now ≤ Limits.SPANS }
+    requires spans { length rows.now.kept ≤ Limits.SPANS }
     ensures verdict { (slots : ℕ)
-        → result ≡ judged (state_of (joined text.now) rows.now) slots (Replace start end incoming.now) }
+        → result ≡ judged (state_with (joined text.now) rows.now) slots (Replace start end incoming.now) }
 {
     let spans = incoming.spans.as_slice();
     if brings_reserved(spans) {
@@ -81,13 +83,13 @@ fn brings_bad_flags(spans: &[NewSpan]) -> bool
 /// The verdict of a replacement whose spans may come.
 fn judge_bounds(
     text: &Halves,
-    rows: &[SpanRow],
+    rows: &SpanIndex,
     start: i32,
     end: i32,
     incoming: &Incoming,
 ) -> Verdict
-    requires spans { length rows.now ≤ Limits.SPANS }
-    ensures { result ≡ first_of (replacement_lines (state_of (joined text.now) rows.now) start end incoming.now) }
+    requires spans { length rows.now.kept ≤ Limits.SPANS }
+    ensures { result ≡ first_of (replacement_lines (state_with (joined text.now) rows.now) start end incoming.now) }
 {
     let len = i64::from(text.len());
     if end < start {
@@ -105,16 +107,16 @@ fn judge_bounds(
 /// The verdict of a replacement whose places lie in the text too.
 fn judge_exchange(
     text: &Halves,
-    rows: &[SpanRow],
+    rows: &SpanIndex,
     start: u32,
     end: u32,
     incoming: &Incoming,
 ) -> Verdict
-    requires spans { length rows.now ≤ Limits.SPANS }
+    requires spans { length rows.now.kept ≤ Limits.SPANS }
     requires order { start ≤ end }
     requires within { end ≤ length (joined text.now) }
     ensures { result ≡ first_of
-        (exchange_lines (state_of (joined text.now) rows.now) (pos start) (pos end) incoming.now) }
+        (exchange_lines (state_with (joined text.now) rows.now) (pos start) (pos end) incoming.now) }
 {
     let kept = text.len() - (end - start);
     if incoming.units.len() > (Limits::TEXT - kept) as usize {
@@ -125,10 +127,10 @@ fn judge_exchange(
 }
 
 /// The verdict of a replacement whose text isn't too long.
-fn judge_spans(rows: &[SpanRow], cut: &Cut, coming: &Coming) -> Verdict
-    requires few { length rows.now ≤ Limits.SPANS }
+fn judge_spans(rows: &SpanIndex, cut: &Cut, coming: &Coming) -> Verdict
+    requires few { length rows.now.kept ≤ Limits.SPANS }
     requires spans { length coming.now.spans.now < 2 ^ 63 }
-    ensures { result ≡ first_of (span_lines cut.now rows.now (all_coming coming.now)) }
+    ensures { result ≡ first_of (span_lines cut.now (spans_of rows.now) (all_coming coming.now)) }
 {
     let arrivals = count_coming(coming, cut, rows);
     if cut.start == cut.end && cut.grown == 0 && arrivals == 0 {
@@ -140,20 +142,21 @@ fn judge_spans(rows: &[SpanRow], cut: &Cut, coming: &Coming) -> Verdict
     Verdict::Done
 }
 
-/// Whether too many spans would stand with so many that arrive. Where none does, nothing is counted.
+/// Whether too many spans would stand with so many that arrive. Where even all rows leave room for them, none is read.
 #[tactic(auto, using(crate::proofs::Arrived::arrived))]
-fn is_full(rows: &[SpanRow], cut: &Cut, arrivals: usize) -> bool
-    requires { length rows.now ≤ Limits.SPANS }
-    ensures { result ≡ nat_lt SPANS (length (stayed cut.now rows.now) + arrivals) }
+fn is_full(rows: &SpanIndex, cut: &Cut, arrivals: usize) -> bool
+    requires { length rows.now.kept ≤ Limits.SPANS }
+    ensures { result ≡ nat_lt SPANS (length (stayed cut.now (spans_of rows.now)) + arrivals) }
 {
-    arrivals > 0 && arrivals > Limits::SPANS as usize - count_kept(rows, cut)
+    let most = Limits::SPANS as usize;
+    arrivals > most - rows.rows().count() as usize && arrivals > most - count_kept(rows, cut)
 }
 
 /// The verdict of a set, with so many watchers loaded.
 #[tactic(auto, unfolding(edit_model::specs::Verdicts::judged))]
-pub fn judge_set(text: &Halves, rows: &[SpanRow], asked: &AskedSpan, slots: u8) -> Verdict
-    requires spans { length rows.now ≤ Limits.SPANS }
-    ensures verdict { result ≡ judged (state_of (joined text.now) rows.now) slots
+pub fn judge_set(text: &Halves, rows: &SpanIndex, asked: &AskedSpan, slots: u8) -> Verdict
+    requires spans { length rows.now.kept ≤ Limits.SPANS }
+    ensures verdict { result ≡ judged (state_with (joined text.now) rows.now) slots
         (Set asked.now.id asked.now.start asked.now.end asked.now.flags asked.now.what) }
     ensures starts { result ≡ Done → pos 0 ≤ℤ asked.now.start }
     ensures ends { result ≡ Done → pos 0 ≤ℤ asked.now.end }
@@ -171,9 +174,9 @@ pub fn judge_set(text: &Halves, rows: &[SpanRow], asked: &AskedSpan, slots: u8) 
 }
 
 /// The verdict of a set whose id, what and flags are free to it.
-fn judge_places(text: &Halves, rows: &[SpanRow], asked: &AskedSpan) -> Verdict
-    requires spans { length rows.now ≤ Limits.SPANS }
-    ensures verdict { result ≡ first_of (place_lines (state_of (joined text.now) rows.now) asked.now) }
+fn judge_places(text: &Halves, rows: &SpanIndex, asked: &AskedSpan) -> Verdict
+    requires spans { length rows.now.kept ≤ Limits.SPANS }
+    ensures verdict { result ≡ first_of (place_lines (state_with (joined text.now) rows.now) asked.now) }
     ensures starts { result ≡ Done → pos 0 ≤ℤ asked.now.start }
     ensures ends { result ≡ Done → pos 0 ≤ℤ asked.now.end }
 {
@@ -191,11 +194,11 @@ fn judge_places(text: &Halves, rows: &[SpanRow], asked: &AskedSpan) -> Verdict
 }
 
 /// The verdict of a set whose places lie in the text too.
-fn judge_kind(text: &Halves, rows: &[SpanRow], asked: &AskedSpan) -> Verdict
-    requires spans { length rows.now ≤ Limits.SPANS }
+fn judge_kind(text: &Halves, rows: &SpanIndex, asked: &AskedSpan) -> Verdict
+    requires spans { length rows.now.kept ≤ Limits.SPANS }
     requires starts { pos 0 ≤ℤ asked.now.start }
     requires ends { pos 0 ≤ℤ asked.now.end }
-    ensures { result ≡ first_of (kind_lines (state_of (joined text.now) rows.now) asked.now) }
+    ensures { result ≡ first_of (kind_lines (state_with (joined text.now) rows.now) asked.now) }
 {
     if breaks_paragraph(text, asked.flags, place_of(asked.start)) {
         return Verdict::Refused(Refusal::ParagraphStart);
@@ -214,21 +217,21 @@ fn judge_kind(text: &Halves, rows: &[SpanRow], asked: &AskedSpan) -> Verdict
 
 /// How many spans are attached after a set of this id.
 #[tactic(auto, using(crate::proofs::Lists::lengths))]
-fn span_count_after_set(rows: &[SpanRow], id: u32) -> usize
-    requires { length rows.now ≤ Limits.SPANS }
-    ensures { result ≡ span_count_after_set (state_of [] rows.now) id }
+fn span_count_after_set(rows: &SpanIndex, id: u32) -> usize
+    requires { length rows.now.kept ≤ Limits.SPANS }
+    ensures { result ≡ span_count_after_set (state_with [] rows.now) id }
 {
     if is_attached(rows, id) {
-        rows.len()
+        rows.rows().count() as usize
     } else {
-        rows.len() + 1
+        rows.rows().count() as usize + 1
     }
 }
 
 /// The verdict of a removal.
 #[tactic(auto, unfolding(edit_model::specs::Verdicts::judged))]
-pub fn judge_remove(rows: &[SpanRow], id: u32) -> Verdict
-    ensures { (units : List ℕ) (slots : ℕ) → result ≡ judged (state_of units rows.now) slots (Remove id) }
+pub fn judge_remove(rows: &SpanIndex, id: u32) -> Verdict
+    ensures { (units : List ℕ) (slots : ℕ) → result ≡ judged (state_with units rows.now) slots (Remove id) }
 {
     if id < 3 {
         return Verdict::Refused(Refusal::Reserved);
@@ -240,15 +243,15 @@ pub fn judge_remove(rows: &[SpanRow], id: u32) -> Verdict
 }
 
 /// Whether a span with this id is attached.
-pub fn is_attached(rows: &[SpanRow], id: u32) -> bool
-    ensures { result ≡ is_attached id (spans_in rows.now) }
+pub fn is_attached(rows: &SpanIndex, id: u32) -> bool
+    ensures { result ≡ is_attached id (spans_of rows.now) }
 {
-    place_of_id(rows, id).is_some()
+    rows.find(id).is_some()
 }
 
 /// Whether this what watches, and has no slot or one that another span watches for.
-fn lacks_slot(rows: &[SpanRow], id: u32, what: What, slots: u8) -> bool
-    ensures { (units : List ℕ) → result ≡ lacks_slot (state_of units rows.now) slots id what }
+fn lacks_slot(rows: &SpanIndex, id: u32, what: What, slots: u8) -> bool
+    ensures { (units : List ℕ) → result ≡ lacks_slot (state_with units rows.now) slots id what }
 {
     match what {
         What::Watch(slot) => slot >= slots || is_seat_taken(rows, id, slot),
@@ -257,11 +260,21 @@ fn lacks_slot(rows: &[SpanRow], id: u32, what: What, slots: u8) -> bool
 }
 
 /// Whether a span of another id watches for this slot.
-fn is_seat_taken(rows: &[SpanRow], id: u32, slot: u8) -> bool
-    ensures { result ≡ list_any (λ span. not (has_id id span) && watches slot span.what) (spans_in rows.now) }
+fn is_seat_taken(rows: &SpanIndex, id: u32, slot: u8) -> bool
+    ensures { result ≡ list_any (λ span. not (has_id id span) && watches slot span.what) (spans_of rows.now) }
 {
-    rows.iter()
-        .any(|row| row.id != id && watches(row.what, slot))
+    for i in 0..rows.rows().count() {
+        if is_other_seat(&row_at(rows.rows(), i), id, slot) {
+            return true;
+        }
+    }
+    false
+}
+
+fn is_other_seat(row: &SpanRow, id: u32, slot: u8) -> bool
+    ensures { result ≡ (not (has_id id (span_of row.now)) && watches slot row.now.what) }
+{
+    row.id != id && watches(row.what, slot)
 }
 
 fn watches(what: What, slot: u8) -> bool

@@ -1,148 +1,190 @@
 //! Spans that a replacement empties and moves.
 
-ghost use Rattle.std.specs.Prelude.{◌≡◌, ◌≤◌, ◌<◌, ◌+◌, ◌++◌, [], ◌∷◌, true, Some, List, length, take, vec_capacity};
-ghost use Rattle.std.specs.List.{All};
-ghost use Rattle.edit_base.specs.declared.bounds.TheConstants.Limits.{SPANS};
+ghost use Rattle.std.specs.Prelude.{◌≡◌, ◌≤◌, ◌<◌, ◌+◌, ◌-◌, ◌*◌, ◌++◌, ◌∷◌, [], true, Some, None, length, vec_capacity, vec_len, map, if◌then◌else◌};
+ghost use Rattle.std.specs.List.{All, IsDistinct, list_any};
 ghost use Rattle.edit_model.specs.Boundaries.{next_boundary};
-ghost use Rattle.edit_model.specs.Replaced.{moved_span, emptied_spans, kept_spans, stayed_spans};
-ghost use Rattle.edit_model.specs.Changed.{has_moved, replaced_effect};
-ghost use Rattle.edit_model.specs.State.{Span};
-ghost use Rattle.edit_model.specs.Rows.{span_of, spans_in, state_of};
-ghost use Rattle.replace_engine.specs.Changes.{effect_of};
-ghost use Rattle.replace_engine.specs.Moves.{ArePlaced, moved_of, shift_between, moved_shifts};
-ghost use Rattle.replace_engine.specs.Rows.{HasRoom, KeepsRoom};
+ghost use Rattle.edit_model.specs.Replaced.{emptied_spans, is_emptied, kept_spans, moved_span};
+ghost use Rattle.edit_model.specs.Rows.{IsAtOrder, span_of, spans_in};
+ghost use Rattle.interval_tree.specs.Answers.{IsRising, orders_of};
+ghost use Rattle.interval_tree.specs.Ids.{ids_given, same_number};
+ghost use Rattle.moved_rows.specs.Moves.{IsBegun};
+ghost use Rattle.moved_rows.specs.Moving.{IsSpanWithin};
+ghost use Rattle.span_table.specs.Table.{spans_of};
 ghost use Rattle.text_cut.specs.Halves.{joined};
-ghost use Rattle.text_cut.specs.Pulled.{has_pulled_end, pulls_one};
-ghost use Rattle.replace_engine.specs.Moved.{is_emptied_row, IsRowOver};
+ghost use Rattle.text_cut.specs.Pulled.{pulls_one};
+ghost use Rattle.replace_engine.specs.Moved.{AreLeft, is_paragraph_span, is_plain};
+ghost use Rattle.replace_engine.specs.Rows.{whole};
 
-use crate::changes::{Change, MovedRows};
 use crate::room::push_within;
-use crate::telling::start_change;
-use edit_base::SpanRow;
-use span_flags::{end_of_kind, is_point_mark, kind_of_word, start_of};
+use edit_base::{SpanRow, Steps};
+use interval_tree::SpanIndex;
+use moved_rows::{MovedRows, insert_units, move_rows};
+use span_flags::{is_point_mark, kind_of_word};
+use std::sync::ledger::Ledger;
 use text_cut::Cut;
 
-/// Emptied spans go, every other end moves, and the change says so.
-pub fn move_spans(rows: &mut Vec<SpanRow>, cut: &Cut, change: &mut Change)
-    requires few { length (spans_in rows.old.items) ≤ SPANS }
-    requires told { HasRoom (length rows.old.items) change.old }
-    requires over { All (IsRowOver (length (joined cut.now.text))) rows.old.items }
-    requires boundary { pulls_one cut.now.start cut.now.end (spans_in rows.old.items) ≡ true
-        → cut.now.boundary ≡ Some (next_boundary (joined cut.now.text) cut.now.end) }
-    ensures rows { spans_in rows.new.items
-        ≡ stayed_spans (state_of (joined cut.now.text) rows.old.items) cut.now.start cut.now.end cut.now.grown }
-    ensures effect { effect_of change.new
-        ≡ replaced_effect (state_of (joined cut.now.text) rows.old.items) cut.now.start cut.now.end cut.now.grown [] }
-    ensures stood { change.new.moved.stood ≡ length rows.new.items }
-    ensures placed { ArePlaced (spans_in rows.new.items) change.new.moved }
-    ensures none { change.new.added.items ≡ [] }
-    ensures fewer { length rows.new.items ≤ length rows.old.items }
-    ensures capacity { vec_capacity rows.old ≤ vec_capacity rows.new }
-    ensures lists { KeepsRoom change.old change.new }
-{
-    start_change(change, cut.start, cut.end, cut.grown);
-    let kept = pass_rows(rows, cut, &mut change.removed, &mut change.moved);
-    rows.truncate(kept);
-}
-
-// One pass over the rows: an emptied one goes to the removed, and any other is moved, told of and kept in front of
-// those that follow. How many are kept.
-fn pass_rows(
-    rows: &mut [SpanRow],
-    cut: &Cut,
-    removed: &mut Vec<SpanRow>,
+/// The spans that are emptied when the units from `start` to `end` become `grown` units go to the removed ones. `rest`
+/// is room for the others. Both lists have room for all rows.
+pub fn drop_emptied<L: Ledger>(
     moved: &mut MovedRows,
-) -> usize
-    requires few { length (spans_in rows.old) ≤ SPANS }
+    start: u32,
+    end: u32,
+    grown: u32,
+    rest: &mut Vec<SpanRow>,
+    removed: &mut Vec<SpanRow>,
+    steps: &mut Steps<L>,
+)
     requires none { removed.old.items ≡ [] }
-    requires start { moved.old.stood ≡ 0 }
-    requires told { moved.old.told ≡ [] }
-    requires room { length rows.old ≤ vec_capacity removed.old }
-    requires moved_room { length rows.old ≤ moved.old.room }
-    requires over { All (IsRowOver (length (joined cut.now.text))) rows.old }
-    requires boundary { pulls_one cut.now.start cut.now.end (spans_in rows.old) ≡ true
-        → cut.now.boundary ≡ Some (next_boundary (joined cut.now.text) cut.now.end) }
-    ensures kept { spans_in (take result rows.new)
-        ≡ stayed_spans (state_of (joined cut.now.text) rows.old) cut.now.start cut.now.end cut.now.grown }
-    ensures few { result ≤ length rows.old }
-    ensures removed { spans_in removed.new.items
-        ≡ emptied_spans cut.now.start cut.now.end cut.now.grown (spans_in rows.old) }
-    ensures moved { moved_of moved.new
-        ≡ moved_shifts (moved_span cut.now.start cut.now.end cut.now.grown (joined cut.now.text))
-        (kept_spans cut.now.start cut.now.end cut.now.grown (spans_in rows.old)) }
-    ensures stood { moved.new.stood ≡ result }
-    ensures placed { ArePlaced (spans_in (take result rows.new)) moved.new }
+    requires begun { IsBegun moved.old }
+    requires rest_room { length moved.old.rows.kept ≤ vec_capacity rest.old }
+    requires room { length moved.old.rows.kept ≤ vec_capacity removed.old }
+    ensures begun { IsBegun moved.new }
+    ensures kept { spans_of moved.new.rows ≡ kept_spans start end grown (spans_of moved.old.rows) }
+    ensures removed { spans_in removed.new.items ≡ emptied_spans start end grown (spans_of moved.old.rows) }
+    ensures gap { moved.new.rows.gap ≡ moved.old.rows.gap }
+    ensures gap_room { moved.new.rows.room ≡ moved.old.rows.room }
+    ensures spare { length moved.old.rows.kept + moved.old.rows.spare
+        ≤ length moved.new.rows.kept + moved.new.rows.spare }
+    ensures fewer { length moved.new.rows.kept ≤ length moved.old.rows.kept }
     ensures capacity { vec_capacity removed.old ≤ vec_capacity removed.new }
-    ensures moved_capacity { moved.old.room ≤ moved.new.room }
+    ensures rest_capacity { vec_capacity rest.old ≤ vec_capacity rest.new }
+    ensures more { steps.old ≤ steps.new }
+    ensures ticks { steps.new ≤ steps.old + 5 * length moved.old.rows.kept }
 {
-    let mut kept = 0;
-    for at in 0..rows.len() {
-        let row = rows[at];
-        if is_emptied(&row, cut) {
-            push_within(removed, row);
-        } else {
-            rows[kept] = keep_row(&row, cut, moved);
-            kept += 1;
-        }
+    if start == end || moved.rows().first_emptied(start, end, grown).is_none() {
+        return;
     }
-    kept
+    rest.clear();
+    part_rows(moved.rows(), start, end, grown, rest, removed, steps);
+    moved.keep(rest, steps);
 }
 
-// The row where it goes, which is told of where it moves.
-fn keep_row(row: &SpanRow, cut: &Cut, moved: &mut MovedRows) -> SpanRow
-    requires most { moved.old.stood < SPANS }
-    requires room { moved.old.stood < moved.old.room }
-    requires over { IsRowOver (length (joined cut.now.text)) row.now }
-    requires boundary { has_pulled_end cut.now.start cut.now.end (span_of row.now) ≡ true
-        → cut.now.boundary ≡ Some (next_boundary (joined cut.now.text) cut.now.end) }
-    ensures row { span_of result
-        ≡ moved_span cut.now.start cut.now.end cut.now.grown (joined cut.now.text) (span_of row.now) }
-    ensures moved { moved_of moved.new ≡ moved_of moved.old
-        ++ moved_shifts (moved_span cut.now.start cut.now.end cut.now.grown (joined cut.now.text))
-        (span_of row.now ∷ []) }
-    ensures stood { moved.new.stood ≡ moved.old.stood + 1 }
-    ensures placed { (spans : List Span) → length spans ≡ moved.old.stood → ArePlaced spans moved.old
-        → ArePlaced (spans ++ span_of result ∷ []) moved.new }
-    ensures capacity { moved.old.room ≤ moved.new.room }
+/// The rows that are emptied go to the removed ones, and all others behind those of `rest`.
+fn part_rows<L: Ledger>(
+    rows: &SpanIndex,
+    start: u32,
+    end: u32,
+    grown: u32,
+    rest: &mut Vec<SpanRow>,
+    removed: &mut Vec<SpanRow>,
+    steps: &mut Steps<L>,
+)
+    requires none { rest.old.items ≡ [] }
+    requires none_removed { removed.old.items ≡ [] }
+    requires rest_room { length rows.now.kept ≤ vec_capacity rest.old }
+    requires room { length rows.now.kept ≤ vec_capacity removed.old }
+    ensures kept { spans_in rest.new.items ≡ kept_spans start end grown (spans_of rows.now) }
+    ensures removed { spans_in removed.new.items ≡ emptied_spans start end grown (spans_of rows.now) }
+    ensures fewer { length rest.new.items ≤ length rows.now.kept }
+    ensures distinct { IsDistinct same_number (ids_given rest.new.items) }
+    ensures rising { IsRising (orders_of rest.new.items) }
+    ensures capacity { vec_capacity removed.old ≤ vec_capacity removed.new }
+    ensures rest_capacity { vec_capacity rest.old ≤ vec_capacity rest.new }
+    ensures ticks { steps.new ≡ steps.old + length rows.now.kept }
 {
-    let to = moved_row(row, cut);
-    if has_moved(row, &to) {
-        moved.tell(row, &to);
+    for i in 0..rows.rows().count() {
+        let row = rows.rows().row(i, steps);
+        part_row(row, start, end, grown, rest, removed);
+    }
+}
+
+/// The row goes to the removed ones if it is emptied, else behind those of `rest`.
+fn part_row(
+    row: SpanRow,
+    start: u32,
+    end: u32,
+    grown: u32,
+    rest: &mut Vec<SpanRow>,
+    removed: &mut Vec<SpanRow>,
+)
+    requires rest_room { vec_len rest.old < vec_capacity rest.old }
+    requires room { vec_len removed.old < vec_capacity removed.old }
+    ensures rest { rest.new.items
+        ≡ (if is_emptied start end grown (span_of row) then rest.old.items else rest.old.items ++ row ∷ []) }
+    ensures removed { removed.new.items
+        ≡ (if is_emptied start end grown (span_of row) then removed.old.items ++ row ∷ [] else removed.old.items) }
+    ensures capacity { vec_capacity removed.old ≤ vec_capacity removed.new }
+    ensures rest_capacity { vec_capacity rest.old ≤ vec_capacity rest.new }
+{
+    if is_emptied_by(&row, start, end, grown) {
+        push_within(removed, row);
     } else {
-        moved.pass(1);
+        push_within(rest, row);
     }
-    to
 }
 
-/// Whether the span may not be empty, and is emptied.
-pub fn is_emptied(row: &SpanRow, cut: &Cut) -> bool
-    ensures { result ≡ is_emptied_row cut.now.start cut.now.end cut.now.grown row.now }
+/// Whether the span may not be empty, and is emptied when the units from `start` to `end` become `grown` units.
+pub fn is_emptied_by(row: &SpanRow, start: u32, end: u32, grown: u32) -> bool
+    ensures { result ≡ is_emptied start end grown (span_of row.now) }
 {
     is_point_mark(kind_of_word(row.flags))
-        && cut.start < cut.end
-        && cut.start <= row.start
-        && row.end <= cut.end
-        && (cut.grown == 0 || cut.start < row.start || row.end < cut.end)
+        && start < end
+        && start <= row.start
+        && row.end <= end
+        && (grown == 0 || start < row.start || row.end < end)
 }
 
-// The row with its ends where the end table takes them.
-fn moved_row(row: &SpanRow, cut: &Cut) -> SpanRow
-    requires over { IsRowOver (length (joined cut.now.text)) row.now }
-    requires boundary { has_pulled_end cut.now.start cut.now.end (span_of row.now) ≡ true
-        → cut.now.boundary ≡ Some (next_boundary (joined cut.now.text) cut.now.end) }
-    ensures { span_of result
-        ≡ moved_span cut.now.start cut.now.end cut.now.grown (joined cut.now.text) (span_of row.now) }
+/// Whether the gap alone moves all ends: no unit goes, and those that come don't come behind the last one of a text in
+/// which a span's ends stay at boundaries of paragraphs.
+fn is_plain(moved: &MovedRows, start: u32, end: u32, len: u32) -> bool
+    ensures { result ≡ is_plain start end len (spans_of moved.now.rows) }
 {
-    let kind = kind_of_word(row.flags);
-    SpanRow {
-        start: cut.end_after(row.id, start_of(kind), row.start),
-        end: cut.end_after(row.id, end_of_kind(kind), row.end),
-        ..*row
+    start == end && !(end == len && has_paragraphs(moved))
+}
+
+/// Whether a span's ends stay at boundaries of paragraphs.
+fn has_paragraphs(moved: &MovedRows) -> bool
+    ensures { result ≡ list_any is_paragraph_span (spans_of moved.now.rows) }
+{
+    moved.rows().paragraphs() > 0
+}
+
+/// The rows that a replacement of the units from `start` to `end` moves otherwise than by the gap alone: those that
+/// touch the range. Where it moves none so, no row is read. `touched` has room for all rows.
+pub fn touch<L: Ledger>(
+    moved: &MovedRows,
+    start: u32,
+    end: u32,
+    len: u32,
+    touched: &mut Vec<SpanRow>,
+    steps: &mut Steps<L>,
+)
+    requires room { length moved.now.rows.kept ≤ vec_capacity touched.old }
+    ensures rows { All (IsAtOrder (spans_of moved.now.rows)) touched.new.items }
+    ensures rest { AreLeft start end len (spans_of moved.now.rows) touched.new.items }
+    ensures capacity { vec_capacity touched.old ≤ vec_capacity touched.new }
+    ensures more { steps.old ≤ steps.new }
+    ensures ticks { steps.new ≤ steps.old + length moved.now.rows.kept }
+{
+    touched.clear();
+    if !is_plain(moved, start, end, len) {
+        // There is room, so this succeeds.
+        let _ = moved.rows().touching(start, end, touched, steps);
     }
 }
 
-fn has_moved(from: &SpanRow, to: &SpanRow) -> bool
-    ensures { result ≡ has_moved (shift_between from.now to.now) }
+/// Every end goes where the end table takes it. The gap stands at the end of the cut, and no emptied span is left.
+pub fn move_spans(cut: &Cut, touched: &[SpanRow], moved: &mut MovedRows)
+    requires begun { IsBegun moved.old }
+    requires gap { moved.old.rows.gap ≡ cut.now.end }
+    requires rows { All (IsAtOrder (spans_of moved.old.rows)) touched.now }
+    requires rest { AreLeft cut.now.start cut.now.end (length (joined cut.now.text)) (spans_of moved.old.rows)
+        touched.now }
+    requires boundary { pulls_one cut.now.start cut.now.end (spans_in touched.now) ≡ true
+        → cut.now.boundary ≡ Some (next_boundary (joined cut.now.text) cut.now.end) }
+    requires over { All (IsSpanWithin (length (joined cut.now.text))) (spans_of moved.old.rows) }
+    requires room { moved.old.rows.room + length (joined cut.now.text) ≡ whole }
+    ensures spans { spans_of moved.new.rows
+        ≡ map (moved_span cut.now.start cut.now.end cut.now.grown (joined cut.now.text)) (spans_of moved.old.rows) }
+    ensures before { moved.new.before ≡ spans_of moved.old.rows }
+    ensures told { moved.new.told ≡ None }
+    ensures gap { moved.new.rows.gap ≡ cut.now.start + cut.now.grown }
+    ensures gap_room { moved.new.rows.room + cut.now.grown ≡ moved.old.rows.room + (cut.now.end - cut.now.start) }
+    ensures spare { moved.old.rows.spare ≤ moved.new.rows.spare }
 {
-    !(from.start == to.start && from.end == to.end)
+    if is_plain(moved, cut.start, cut.end, cut.text.len()) {
+        insert_units(moved, cut.grown, &cut.text);
+    } else {
+        move_rows(moved, touched, cut);
+    }
 }

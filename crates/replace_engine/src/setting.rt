@@ -1,125 +1,135 @@
 //! Spans that are set and removed.
 
-ghost use Rattle.std.specs.Prelude.{◌≡◌, ◌≤◌, ◌<◌, [], true, false, length, vec_capacity, OnOk, OnErr, IsOk};
-ghost use Rattle.std.specs.List.{HoldsAt};
+ghost use Rattle.std.specs.Prelude.{◌≡◌, ◌≤◌, ◌<◌, ◌+◌, [], true, false, Some, length, vec_capacity, OnOk, OnErr, IsOk};
 ghost use Rattle.edit_base.specs.declared.bounds.TheConstants.Limits.{SPANS};
-ghost use Rattle.edit_model.specs.Attached.{is_attached, with_span, without_span, spans_of};
+ghost use Rattle.edit_model.specs.Attached.{is_attached, with_span, without_span, spans_of as spans_with};
 ghost use Rattle.edit_model.specs.Changed.{set_effect, spans_effect};
-ghost use Rattle.edit_model.specs.Rows.{span_of, spans_in, state_of};
+ghost use Rattle.edit_model.specs.Rows.{span_of};
 ghost use Rattle.edit_model.specs.WellFormed.{HasDistinctIds};
+ghost use Rattle.span_table.specs.Table.{place_of, spans_of};
 ghost use Rattle.replace_engine.specs.Changes.{effect_of};
-ghost use Rattle.replace_engine.specs.Rows.{HasRoom, IsTold, KeepsRoom, span_room};
+ghost use Rattle.replace_engine.specs.Rows.{HasRoom, IsTold, KeepsRoom, SeesGap, span_room, state_with};
 
 use crate::changes::Change;
-use crate::ids::place_of_id;
-use crate::room::{push_within, reserve_rows};
-use crate::telling::start_change;
+use crate::reading::row_at;
+use crate::room::push_within;
 use edit_base::{NoMemory, SpanRow};
 
 /// The row comes to the place of the one with its id, else behind all others, and the change says so. Of an attached
 /// id, or where there is room for one more, it asks for no memory, and without memory nothing changes.
-pub fn set_row(rows: &mut Vec<SpanRow>, row: &SpanRow, change: &mut Change) -> Result<(), NoMemory>
-    requires distinct { HasDistinctIds (spans_in rows.old.items) }
-    requires few { length (spans_in rows.old.items) ≤ SPANS }
-    requires told { HasRoom (length rows.old.items) change.old }
-    ensures rows { OnOk result (spans_in rows.new.items ≡ with_span (span_of row.now) (spans_in rows.old.items)) }
-    ensures effect { OnOk result (effect_of change.new ≡ set_effect (state_of [] rows.old.items) (span_of row.now)) }
-    ensures tells { IsTold rows.old.items change.old → IsTold rows.new.items change.new }
-    ensures told { HasRoom (length rows.new.items) change.new }
-    ensures err { OnErr result ((rows.new.items ≡ rows.old.items) × (effect_of change.new ≡ effect_of change.old)) }
-    ensures attached { is_attached row.now.id (spans_in rows.old.items) ≡ true → IsOk result }
-    ensures room { length rows.old.items < span_room (vec_capacity rows.old) change.old → IsOk result }
-    ensures capacity { vec_capacity rows.old ≤ vec_capacity rows.new }
+pub fn set_row(
+    row: &SpanRow,
+    touched: &mut Vec<SpanRow>,
+    change: &mut Change,
+) -> Result<(), NoMemory>
+    requires distinct { HasDistinctIds (spans_of change.old.moved.rows) }
+    requires few { length change.old.moved.rows.kept ≤ SPANS }
+    requires told { HasRoom (length change.old.moved.rows.kept) (vec_capacity touched.old) change.old }
+    ensures rows { OnOk result (spans_of change.new.moved.rows
+        ≡ with_span (span_of row.now) (spans_of change.old.moved.rows)) }
+    ensures effect { OnOk result (effect_of change.new
+        ≡ set_effect (state_with [] change.old.moved.rows) (span_of row.now)) }
+    ensures tells { IsTold change.old → IsTold change.new }
+    ensures told { HasRoom (length change.new.moved.rows.kept) (vec_capacity touched.new) change.new }
+    ensures err { OnErr result ((spans_of change.new.moved.rows ≡ spans_of change.old.moved.rows)
+        × (effect_of change.new ≡ effect_of change.old)) }
+    ensures gap { SeesGap change.old.moved.rows change.new.moved.rows }
+    ensures attached { is_attached row.now.id (spans_of change.old.moved.rows) ≡ true → IsOk result }
+    ensures room { length change.old.moved.rows.kept < span_room (vec_capacity touched.old) change.old → IsOk result }
+    ensures touched { vec_capacity touched.old ≤ vec_capacity touched.new }
     ensures lists { KeepsRoom change.old change.new }
+    ensures spare { length change.old.moved.rows.kept + change.old.moved.rows.spare
+        ≤ length change.new.moved.rows.kept + change.new.moved.rows.spare }
 {
-    match place_of_id(rows, row.id) {
+    match change.moved.rows().find(row.id) {
         Some(at) => {
-            replace_row(rows, at, row, change);
+            replace_row(at, row, change);
             Ok(())
         }
-        None => append_row(rows, row, change),
+        None => append_row(row, touched, change),
     }
 }
 
 // The row comes to the place of the one with its id, and the change says so.
-fn replace_row(rows: &mut Vec<SpanRow>, at: usize, row: &SpanRow, change: &mut Change)
-    requires distinct { HasDistinctIds (spans_in rows.old.items) }
-    requires few { length (spans_in rows.old.items) ≤ SPANS }
-    requires told { HasRoom (length rows.old.items) change.old }
-    requires within { at < length rows.old.items }
-    requires id { HoldsAt (λ other. other.id ≡ row.now.id) rows.old.items at }
-    ensures rows { spans_in rows.new.items ≡ with_span (span_of row.now) (spans_in rows.old.items) }
-    ensures effect { effect_of change.new ≡ set_effect (state_of [] rows.old.items) (span_of row.now) }
-    ensures tells { IsTold rows.new.items change.new }
-    ensures count { length rows.new.items ≡ length rows.old.items }
-    ensures capacity { vec_capacity rows.old ≤ vec_capacity rows.new }
+fn replace_row(at: u32, row: &SpanRow, change: &mut Change)
+    requires distinct { HasDistinctIds (spans_of change.old.moved.rows) }
+    requires few { length change.old.moved.rows.kept ≤ SPANS }
+    requires at { place_of row.now.id (spans_of change.old.moved.rows) ≡ Some at }
+    ensures rows { spans_of change.new.moved.rows ≡ with_span (span_of row.now) (spans_of change.old.moved.rows) }
+    ensures effect { effect_of change.new ≡ set_effect (state_with [] change.old.moved.rows) (span_of row.now) }
+    ensures tells { IsTold change.new }
+    ensures count { length change.new.moved.rows.kept ≡ length change.old.moved.rows.kept }
+    ensures gap { SeesGap change.old.moved.rows change.new.moved.rows }
+    ensures spare { change.old.moved.rows.spare ≤ change.new.moved.rows.spare }
     ensures lists { KeepsRoom change.old change.new }
 {
-    start_change(change, 0, 0, 0);
-    change.moved.pass(at as u32);
-    change.moved.tell(&rows[at], row);
-    change.moved.pass((rows.len() - at - 1) as u32);
-    rows[at] = *row;
+    change.start(0, 0, 0);
+    change.moved.begin();
+    change.moved.set(
+        at,
+        &SpanRow {
+            order: u64::from(at),
+            ..*row
+        },
+    );
 }
 
 // The row comes behind all others, and the change says so.
-fn append_row(rows: &mut Vec<SpanRow>, row: &SpanRow, change: &mut Change) -> Result<(), NoMemory>
-    requires absent { is_attached row.now.id (spans_in rows.old.items) ≡ false }
-    requires few { length (spans_in rows.old.items) ≤ SPANS }
-    ensures rows { OnOk result (spans_in rows.new.items ≡ with_span (span_of row.now) (spans_in rows.old.items)) }
-    ensures effect { OnOk result (effect_of change.new ≡ set_effect (state_of [] rows.old.items) (span_of row.now)) }
-    ensures tells { IsTold rows.old.items change.old → IsTold rows.new.items change.new }
-    ensures told { OnOk result (HasRoom (length rows.new.items) change.new) }
-    ensures err { OnErr result ((rows.new.items ≡ rows.old.items) × (effect_of change.new ≡ effect_of change.old)) }
-    ensures room { length rows.old.items < span_room (vec_capacity rows.old) change.old → IsOk result }
-    ensures capacity { vec_capacity rows.old ≤ vec_capacity rows.new }
+fn append_row(
+    row: &SpanRow,
+    touched: &mut Vec<SpanRow>,
+    change: &mut Change,
+) -> Result<(), NoMemory>
+    requires absent { is_attached row.now.id (spans_of change.old.moved.rows) ≡ false }
+    requires few { length change.old.moved.rows.kept ≤ SPANS }
+    ensures rows { OnOk result (spans_of change.new.moved.rows
+        ≡ with_span (span_of row.now) (spans_of change.old.moved.rows)) }
+    ensures effect { OnOk result (effect_of change.new
+        ≡ set_effect (state_with [] change.old.moved.rows) (span_of row.now)) }
+    ensures tells { IsTold change.old → IsTold change.new }
+    ensures told { OnOk result (HasRoom (length change.new.moved.rows.kept) (vec_capacity touched.new) change.new) }
+    ensures err { OnErr result ((change.new.moved.rows.kept ≡ change.old.moved.rows.kept)
+        × (spans_of change.new.moved.rows ≡ spans_of change.old.moved.rows)
+        × (effect_of change.new ≡ effect_of change.old)) }
+    ensures gap { SeesGap change.old.moved.rows change.new.moved.rows }
+    ensures room { length change.old.moved.rows.kept < span_room (vec_capacity touched.old) change.old → IsOk result }
+    ensures touched { vec_capacity touched.old ≤ vec_capacity touched.new }
     ensures lists { KeepsRoom change.old change.new }
+    ensures spare { length change.old.moved.rows.kept + change.old.moved.rows.spare
+        ≤ length change.new.moved.rows.kept + change.new.moved.rows.spare }
 {
-    reserve_rows(rows, 1, change)?;
-    start_change(change, 0, 0, 0);
-    change.moved.pass(rows.len() as u32);
-    push_within(&mut change.added, *row);
-    push_within(rows, *row);
+    change.reserve(1, touched)?;
+    change.start(0, 0, 0);
+    change.moved.begin();
+    let row = SpanRow {
+        order: u64::from(change.moved.rows().rows().count()),
+        ..*row
+    };
+    push_within(&mut change.added, row);
+    // There is room, so this succeeds.
+    let _ = change.moved.add(&row);
     Ok(())
 }
 
 /// The row of this id goes, and the change says so.
-pub fn remove_row(rows: &mut Vec<SpanRow>, id: u32, change: &mut Change)
-    requires distinct { HasDistinctIds (spans_in rows.old.items) }
-    requires few { length (spans_in rows.old.items) ≤ SPANS }
-    requires told { HasRoom (length rows.old.items) change.old }
-    ensures rows { spans_in rows.new.items ≡ without_span id (spans_in rows.old.items) }
-    ensures effect { effect_of change.new ≡ spans_effect (spans_of id (spans_in rows.old.items)) [] [] }
-    ensures tells { IsTold rows.new.items change.new }
-    ensures fewer { length rows.new.items ≤ length rows.old.items }
-    ensures capacity { vec_capacity rows.old ≤ vec_capacity rows.new }
+pub fn remove_row(id: u32, change: &mut Change)
+    requires distinct { HasDistinctIds (spans_of change.old.moved.rows) }
+    requires few { length change.old.moved.rows.kept ≤ SPANS }
+    requires room { length change.old.moved.rows.kept ≤ vec_capacity change.old.removed }
+    ensures rows { spans_of change.new.moved.rows ≡ without_span id (spans_of change.old.moved.rows) }
+    ensures effect { effect_of change.new ≡ spans_effect (spans_with id (spans_of change.old.moved.rows)) [] [] }
+    ensures tells { IsTold change.new }
+    ensures fewer { length change.new.moved.rows.kept ≤ length change.old.moved.rows.kept }
+    ensures gap { SeesGap change.old.moved.rows change.new.moved.rows }
+    ensures spare { change.old.moved.rows.spare ≤ change.new.moved.rows.spare }
     ensures lists { KeepsRoom change.old change.new }
 {
-    match place_of_id(rows, id) {
-        Some(at) => take_row(rows, at, id, change),
-        None => {
-            start_change(change, 0, 0, 0);
-            change.moved.pass(rows.len() as u32);
+    change.start(0, 0, 0);
+    match change.moved.rows().find(id) {
+        Some(at) => {
+            push_within(&mut change.removed, row_at(change.moved.rows().rows(), at));
+            change.moved.remove(at);
         }
+        None => change.moved.begin(),
     }
-}
-
-// The row at the place of this id goes, and the change says so.
-fn take_row(rows: &mut Vec<SpanRow>, at: usize, _id: u32, change: &mut Change)
-    requires distinct { HasDistinctIds (spans_in rows.old.items) }
-    requires few { length (spans_in rows.old.items) ≤ SPANS }
-    requires told { HasRoom (length rows.old.items) change.old }
-    requires within { at < length rows.old.items }
-    requires id { HoldsAt (λ row. row.id ≡ _id) rows.old.items at }
-    ensures rows { spans_in rows.new.items ≡ without_span _id (spans_in rows.old.items) }
-    ensures effect { effect_of change.new ≡ spans_effect (spans_of _id (spans_in rows.old.items)) [] [] }
-    ensures tells { IsTold rows.new.items change.new }
-    ensures fewer { length rows.new.items ≤ length rows.old.items }
-    ensures capacity { vec_capacity rows.old ≤ vec_capacity rows.new }
-    ensures lists { KeepsRoom change.old change.new }
-{
-    start_change(change, 0, 0, 0);
-    push_within(&mut change.removed, rows[at]);
-    rows.remove(at);
-    change.moved.pass(rows.len() as u32);
 }

@@ -1,6 +1,6 @@
 //! The text with its spans.
 
-ghost use Rattle.std.specs.Prelude.{ℕ, pos, ◌≤ℤ◌, ◌≡◌, ◌≢◌, ◌≤◌, ◌<◌, ◌+◌, ◌++◌, [], true, false, length, slice_index, slice_get, Some, IfOk, OnOk, OnErr, IsOk};
+ghost use Rattle.std.specs.Prelude.{ℕ, pos, ◌≤ℤ◌, ◌≡◌, ◌≢◌, ◌≤◌, ◌<◌, ◌+◌, ◌-◌, ◌*◌, ◌++◌, [], true, false, length, slice_index, slice_get, Some, IfOk, OnOk, OnErr, IsOk};
 ghost use Rattle.std.specs.List.{All};
 ghost use Rattle.edit_base.specs.declared.verdicts.Refusal.TheVariants.{SpansFull};
 ghost use Rattle.edit_base.specs.declared.verdicts.Verdict.TheVariants.{Done, Refused};
@@ -13,10 +13,12 @@ ghost use Rattle.edit_model.specs.Brought.{IsBrought, coming_spans};
 ghost use Rattle.edit_model.specs.Replaced.{replaced, came_spans, spliced_length};
 ghost use Rattle.edit_model.specs.Rows.{span_of};
 ghost use Rattle.edit_model.specs.Changed.{no_effect, replaced_effect, on_done, stepped, change_of, state_after, effect_after};
+ghost use Rattle.interval_tree.specs.Answers.{IsWithin};
 ghost use Rattle.replace_engine.specs.Changes.{effect_of};
-ghost use Rattle.replace_engine.specs.Moves.{ArePlaced};
+ghost use Rattle.moved_rows.specs.Moves.{ArePlaced};
 ghost use Rattle.edit_model.specs.Over.{next_edge, over};
 ghost use Rattle.edit_model.specs.Rows.{spans_in};
+ghost use Rattle.span_table.specs.Table.{spans_of};
 ghost use Rattle.text_cut.specs.Halves.{joined};
 ghost use Rattle.replace_engine.specs.Rows.{appended_by_set};
 ghost use Rattle.replace_engine.specs.Lines.{set_of};
@@ -24,27 +26,33 @@ ghost use Rattle.replace_engine.specs.Work.{replaced_within};
 ghost use Rattle.std.specs.Int.{abs_diff};
 
 use crate::arriving::count_spans_then;
-use crate::changes::{Change, MovedRows};
-use crate::exchanging::exchange_spans;
+use crate::changes::Change;
+use crate::exchanging::{Exchange, exchange_spans};
 use crate::judging::{AskedSpan, judge_remove, judge_replace, judge_set};
 use crate::places::place_of;
-use crate::queries::{next_edge, spans_over};
-use crate::room::reserve_rows;
+use crate::reading::row_at;
 use crate::setting::{remove_row, set_row};
 use edit_base::{Incoming, Limits, NoMemory, Pick, SpanRow, Steps, Verdict, What};
 use edit_model::Step;
+use interval_tree::SpanIndex;
+use moved_rows::MovedRows;
 use std::alloc::Global;
 use std::marker::Model;
 use std::sync::ledger::Ledger;
-use text_cut::{Cut, Halves, boundary_behind, coming_with};
+use text_cut::{Cut, Halves, coming_with};
 use utf16_gap::GapText;
+
+/// The length of the gap that the spans see, with the units of the text: more than a text may have, so that it is never
+/// used up.
+const ROOM: u32 = 2 * Limits::TEXT;
 
 /// A text of at most 1,048,576 UTF-16 units, with its spans and what the last edit changed.
 #[derive(Drop)]
 pub struct SpannedText {
     units: GapText,
-    /// In order of attachment; the order that a row carries here means nothing.
-    rows: Vec<SpanRow>,
+    /// The rows that a replacement touches, with room for all of them; used again.
+    touched: Vec<SpanRow>,
+    /// The spans, and what the last edit changed.
     change: Change,
 }
 
@@ -52,20 +60,19 @@ impl Model for SpannedText {
     ghost use Rattle.std.specs.Prelude.{◌-◌, length, vec_capacity};
     ghost use Rattle.replace_engine.specs.Changes.{effect_of};
     ghost use Rattle.replace_engine.specs.Seen.{Seen};
-    ghost use Rattle.edit_model.specs.Rows.{state_of};
-    ghost use Rattle.replace_engine.specs.Rows.{IsSound, span_room};
+    ghost use Rattle.replace_engine.specs.Rows.{IsSound, span_room, state_with};
 
     ghost Value = { Seen };
 
     ghost view = { λ it. record {
-      state = state_of it.units.units it.rows.items;
+      state = state_with it.units.units it.change.moved.rows;
       gap = it.units.gap;
       effect = effect_of it.change;
       spare_units = it.units.spare;
-      spare_spans = span_room (vec_capacity it.rows) it.change - length it.rows.items;
+      spare_spans = span_room (vec_capacity it.touched) it.change - length it.change.moved.rows.kept;
     } };
 
-    ghost invariant = { λ it. IsSound it.units.units it.rows.items it.change };
+    ghost invariant = { λ it. IsSound it.units.units it.units.gap (vec_capacity it.touched) it.change };
 }
 
 /// The text of these units as two halves. They are made here alone.
@@ -88,16 +95,23 @@ impl SpannedText {
     {
         Ok(SpannedText {
             units: GapText::new(alloc, 0)?,
-            rows: Vec::new(alloc),
+            touched: Vec::new(alloc),
             change: Change {
                 start: 0,
                 old_end: 0,
                 grown: 0,
                 removed: Vec::new(alloc),
-                moved: MovedRows::new(alloc),
+                moved: MovedRows::new(alloc, ROOM)?,
                 added: Vec::new(alloc),
             },
         })
+    }
+
+    fn index(&self) -> &SpanIndex
+        ensures spans { spans_of result.now ≡ self.now.state.spans }
+        ensures few { length result.now.kept ≤ Limits.SPANS }
+    {
+        self.change.moved.rows()
     }
 
     /// The length in UTF-16 units.
@@ -133,7 +147,7 @@ impl SpannedText {
         ensures count { result ≡ length self.now.state.spans }
         ensures limit { result ≤ Limits.SPANS }
     {
-        self.rows.len() as u32
+        self.index().rows().count()
     }
 
     /// The span at a place of the order of attachment, with that place as its order.
@@ -142,10 +156,7 @@ impl SpannedText {
         ensures span { slice_get self.now.state.spans i ≡ Some (span_of result) }
         ensures order { result.order ≡ i }
     {
-        SpanRow {
-            order: u64::from(i),
-            ..self.rows[i as usize]
-        }
+        row_at(self.index().rows(), i)
     }
 
     /// The spans over a range that are picked, by priority, highest first, and then in order of attachment. `out` is
@@ -161,21 +172,23 @@ impl SpannedText {
         ensures ok { OnOk result (spans_in out.new.items ≡ over qs qe pick self.now.state.spans) }
         ensures orders { All (λ row. slice_get self.now.state.spans row.order ≡ Some (span_of row)) out.new.items }
         ensures err { OnErr result (out.new.items ≡ []) }
+        ensures more { steps.old ≤ steps.new }
+        ensures ticks { IsWithin qs qe self.now.state.spans (steps.new - steps.old) }
     {
-        spans_over(&self.rows, qs, qe, pick, out)
+        self.index().over(qs, qe, pick, out, steps)
     }
 
     /// The least place behind `start` and below `limit` where a span starts or ends, else `limit`.
     pub fn next_edge(&self, start: u32, limit: u32) -> u32
         ensures { result ≡ next_edge start limit self.now.state.spans }
     {
-        next_edge(&self.rows, start, limit)
+        self.index().next_edge(start, limit)
     }
 
     /// What the last edit that was done changed.
     pub fn change(&self) -> &Change
         ensures effect { effect_of result.now ≡ self.now.effect }
-        ensures stood { result.now.moved.stood + length result.now.added.items ≡ length self.now.state.spans }
+        ensures stood { length result.now.moved.before + length result.now.added.items ≡ length self.now.state.spans }
         ensures placed { ArePlaced self.now.state.spans result.now.moved }
     {
         &self.change
@@ -190,7 +203,13 @@ impl SpannedText {
                 start,
                 end,
                 incoming,
-            } => judge_replace(&halves_of(&self.units), &self.rows, *start, *end, incoming),
+            } => judge_replace(
+                &halves_of(&self.units),
+                self.index(),
+                *start,
+                *end,
+                incoming,
+            ),
             Step::Set {
                 id,
                 start,
@@ -205,9 +224,9 @@ impl SpannedText {
                     flags: *flags,
                     what: *what,
                 };
-                judge_set(&halves_of(&self.units), &self.rows, &asked, slots)
+                judge_set(&halves_of(&self.units), self.index(), &asked, slots)
             }
-            Step::Remove { id } => judge_remove(&self.rows, *id),
+            Step::Remove { id } => judge_remove(self.index(), *id),
         }
     }
 
@@ -276,7 +295,7 @@ impl SpannedText {
         ensures few { result ≡ Done → span_count_then self.now.state start end incoming.now ≤ Limits.SPANS }
         ensures well_formed { IsWellFormed self.now.state }
     {
-        judge_replace(&halves_of(&self.units), &self.rows, start, end, incoming)
+        judge_replace(&halves_of(&self.units), self.index(), start, end, incoming)
     }
 
     /// The units from `start` to `end` become the incoming ones, the spans with them, and the change says so. Without
@@ -302,7 +321,8 @@ impl SpannedText {
         ensures err { OnErr result ((self.new.state ≡ self.old.state) × (self.new.effect ≡ self.old.effect)
             × (self.new.gap ≡ self.old.gap)) }
         ensures gap { OnOk result (self.new.gap ≡ start + length incoming.now.units) }
-        ensures ticks { OnOk result (steps.new ≡ steps.old + abs_diff self.old.gap end + length incoming.now.units) }
+        ensures ticks { OnOk result (steps.new ≤ steps.old + abs_diff self.old.gap end + length incoming.now.units
+            + 6 * length self.old.state.spans) }
         ensures room { length incoming.now.units ≤ self.old.spare_units → coming_spans incoming.now ≡ [] → IsOk result }
         ensures spare_units { OnOk result (self.old.spare_units ≤ self.new.spare_units + length incoming.now.units) }
         ensures spare_spans { OnOk result (self.old.spare_spans
@@ -315,11 +335,15 @@ impl SpannedText {
         self.units.reserve(incoming.units.len() as u32)?;
         let coming = coming_with(incoming);
         let most = coming.len().min(Limits::SPANS as usize);
-        reserve_rows(&mut self.rows, most, &mut self.change)?;
-        let text = halves_of(&self.units);
-        let boundary = boundary_behind(&text, &self.rows, start, end);
-        let cut = Cut::new(&text, start, end, incoming.units.as_slice(), boundary);
-        exchange_spans(&coming, &cut, &mut self.rows, &mut self.change);
+        self.change.reserve(most as u32, &mut self.touched)?;
+        let asked = Exchange {
+            text: halves_of(&self.units),
+            start,
+            end,
+            brought: incoming.units.as_slice(),
+            coming,
+        };
+        exchange_spans(&asked, &mut self.touched, &mut self.change, steps);
         // There is room, so this succeeds.
         let _ = self
             .units
@@ -352,7 +376,7 @@ impl SpannedText {
             incoming.units.as_slice(),
             None,
         );
-        count_spans_then(&coming_with(incoming), &cut, &self.rows) as u32
+        count_spans_then(&coming_with(incoming), &cut, self.index()) as u32
     }
 
     /// Gives an attached span these places, flags and what, in its place of the order, or attaches a span behind all
@@ -409,7 +433,7 @@ impl SpannedText {
         ensures ends { result ≡ Done → pos 0 ≤ℤ asked.now.end }
         ensures well_formed { IsWellFormed self.now.state }
     {
-        judge_set(&halves_of(&self.units), &self.rows, asked, slots)
+        judge_set(&halves_of(&self.units), self.index(), asked, slots)
     }
 
     /// Sets a span whose set is done with so many watchers loaded, and the change says so. Without memory nothing
@@ -440,7 +464,7 @@ impl SpannedText {
             order: 0,
             what: asked.what,
         };
-        set_row(&mut self.rows, &row, &mut self.change)?;
+        set_row(&row, &mut self.touched, &mut self.change)?;
         Ok(())
     }
 
@@ -469,7 +493,7 @@ impl SpannedText {
         ensures verdict { (slots : ℕ) → result ≡ judged self.now.state slots (Remove id) }
         ensures well_formed { IsWellFormed self.now.state }
     {
-        judge_remove(&self.rows, id)
+        judge_remove(self.change.moved.rows(), id)
     }
 
     /// Removes a span whose removal is done, and the change says so.
@@ -484,6 +508,6 @@ impl SpannedText {
         ensures well_formed { IsWellFormed self.new.state }
         ensures seated { (slots : ℕ) → IsSeated slots self.old.state.spans → IsSeated slots self.new.state.spans }
     {
-        remove_row(&mut self.rows, id, &mut self.change);
+        remove_row(id, &mut self.change);
     }
 }

@@ -1,7 +1,7 @@
 //! A tool that measures: it makes a text with spans and does one replacement after another, each of them a call of
-//! `SpannedText::replace` alone. A line of a trace takes longer to be read than a replacement takes, so `play` can't
+//! `SpannedText::replace` alone, or asks one query after another. A line of a trace takes longer to be read than a replacement takes, so `play` can't
 //! tell what one costs. The words are KIND LENGTH SPANS COUNT; the difference to a run whose COUNT is 0 is the time of
-//! the replacements. What they do to a text is the contract of the call that is measured; here each function is proved
+//! what is done. What they do to a text is the contract of the call that is measured; here each function is proved
 //! safe, and a run says what its text came to.
 #![tactic(auto)]
 
@@ -19,8 +19,8 @@ use edit_base::Steps;
 use faults::Fault;
 use making::text_with_spans;
 use replace_engine::SpannedText;
-use replacing::replace_many;
-use requests::{Request, request_of};
+use replacing::do_many;
+use requests::{Kind, Request, request_of};
 use std::alloc::Global;
 use std::env;
 use std::io::{self, ErrorKind};
@@ -48,8 +48,12 @@ fn run(rt: &HostRuntime) -> Result<(), Fault> {
     let Some(request) = request_of(words.as_slice()) else {
         return Err(Fault::Usage);
     };
-    let text = measure(rt.alloc(), &request)?;
-    match println!(rt; "{} units, {} spans", text.len(), text.span_count()) {
+    let (text, found) = measure(rt.alloc(), &request)?;
+    match println!(rt;
+        "{} units, {} spans, {found} found",
+        text.len(),
+        text.span_count()
+    ) {
         Ok(()) => Ok(()),
         Err(_) => Err(Fault::Write),
     }
@@ -69,8 +73,8 @@ fn unread_words(error: &io::Error) -> Fault {
     }
 }
 
-// The text that a request leaves.
-fn measure(alloc: Global, request: &Request) -> Result<SpannedText, Fault>
+// The text that a request leaves, and what its queries found in all.
+fn measure(alloc: Global, request: &Request) -> Result<(SpannedText, u64), Fault>
     requires some { 1 ≤ request.now.length }
     requires length { request.now.length ≤ TEXT }
     requires spans { request.now.spans ≤ SPANS }
@@ -83,7 +87,7 @@ fn measure_counted<L: Ledger>(
     alloc: Global,
     request: &Request,
     blank: Blank,
-) -> Result<SpannedText, Fault>
+) -> Result<(SpannedText, u64), Fault>
     requires some { 1 ≤ request.now.length }
     requires length { request.now.length ≤ TEXT }
     requires spans { request.now.spans ≤ SPANS }
@@ -92,7 +96,13 @@ fn measure_counted<L: Ledger>(
     requires open { 0 < blank.parts }
 {
     let mut steps = Steps::<L>::start(blank);
-    let mut text = text_with_spans(alloc, request.length, request.spans, &mut steps)?;
-    replace_many(alloc, &mut text, request.kind, request.count, &mut steps)?;
-    Ok(text)
+    let mut text = text_with_spans(
+        alloc,
+        request.length,
+        request.spans,
+        matches!(request.kind, Kind::Pile),
+        &mut steps,
+    )?;
+    let found = do_many(alloc, &mut text, request.kind, request.count, &mut steps)?;
+    Ok((text, found))
 }

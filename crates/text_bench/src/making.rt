@@ -10,11 +10,12 @@ use replace_engine::SpannedText;
 use std::alloc::Global;
 use std::sync::ledger::Ledger;
 
-/// A text of so many units under so many spans. Its gap stands in the middle, with room for about half as many.
+/// A text of so many units under so many spans, which are spread over it or all begin in the middle. Its gap stands in the middle, with room for about half as many.
 pub fn text_with_spans<L: Ledger>(
     alloc: Global,
     length: u32,
     spans: u32,
+    is_piled: bool,
     steps: &mut Steps<L>,
 ) -> Result<SpannedText, Fault>
     requires some { 1 ≤ length }
@@ -24,7 +25,9 @@ pub fn text_with_spans<L: Ledger>(
     let mut text = SpannedText::new(alloc)?;
     let all = units(alloc, length)?;
     replace(&mut text, 0, 0, &all, steps)?;
-    attach_spans(&mut text, length, spans, steps)?;
+    let apart = if is_piled { 0 } else { length / spans.max(1) };
+    let first = if is_piled { length / 2 } else { 0 };
+    attach_spans(&mut text, length, spans, (first, apart), steps)?;
     // A unit in place of another makes the room that a text needs which has none yet.
     let one = units(alloc, 1)?;
     replace(&mut text, length / 2, length / 2 + 1, &one, steps)?;
@@ -61,11 +64,12 @@ pub fn replace<L: Ledger>(
     }
 }
 
-// Attaches so many spans of a unit each, spread over the text. None of them goes with its unit.
+// Attaches so many spans of a unit each, from a place on and so many units apart. None of them goes with its unit.
 fn attach_spans<L: Ledger>(
     text: &mut SpannedText,
     length: u32,
     spans: u32,
+    places: (u32, u32),
     steps: &mut Steps<L>,
 ) -> Result<(), Fault>
     requires some { 1 ≤ length }
@@ -73,7 +77,10 @@ fn attach_spans<L: Ledger>(
     requires spans { spans ≤ SPANS }
 {
     for at in 0..spans {
-        let start = at.saturating_mul(length / spans).min(length - 1);
+        let start = at
+            .saturating_mul(places.1)
+            .saturating_add(places.0)
+            .min(length - 1);
         attach_span(text, at, start, steps)?;
     }
     Ok(())

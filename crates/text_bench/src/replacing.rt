@@ -1,4 +1,4 @@
-//! The replacements that are measured. None of them makes an incoming text of its own, and at a million units the gap
+//! The replacements and queries that are measured. None of them makes an incoming text of its own, and at a million units the gap
 //! that the text starts with has room for all that comes.
 
 ghost use Rattle.std.specs.Prelude.{◌≤◌};
@@ -8,13 +8,36 @@ use crate::faults::Fault;
 use crate::making::{replace, units};
 use crate::random::Random;
 use crate::requests::Kind;
-use edit_base::{Incoming, Limits, Steps};
+use edit_base::{Incoming, Limits, Pick, Steps};
 use replace_engine::SpannedText;
 use std::alloc::Global;
 use std::sync::ledger::Ledger;
 
-/// Does so many replacements of a kind.
-pub fn replace_many<L: Ledger>(
+/// Does it so many times. How many spans, or places, its queries found.
+pub fn do_many<L: Ledger>(
+    alloc: Global,
+    text: &mut SpannedText,
+    kind: Kind,
+    count: u32,
+    steps: &mut Steps<L>,
+) -> Result<u64, Fault> {
+    match kind {
+        Kind::Query => ask_points(alloc, text, count, steps),
+        Kind::Edge => Ok(ask_edges(text, count)),
+        Kind::Clear => {
+            let all = units(alloc, text.len())?;
+            clear_and_fill(text, count, &all, &units(alloc, 0)?, steps)?;
+            Ok(0)
+        }
+        _ => {
+            replace_many(alloc, text, kind, count, steps)?;
+            Ok(0)
+        }
+    }
+}
+
+// Does so many replacements of a unit.
+fn replace_many<L: Ledger>(
     alloc: Global,
     text: &mut SpannedText,
     kind: Kind,
@@ -24,11 +47,58 @@ pub fn replace_many<L: Ledger>(
     let one = units(alloc, 1)?;
     let none = units(alloc, 0)?;
     match kind {
-        Kind::Cursor => type_units(text, count, &one, &none, steps),
         Kind::Anywhere => insert_anywhere(text, count, &one, steps),
         Kind::Backspace => take_back(text, count, &none, steps),
         Kind::Ends => jump(text, count, &one, steps),
+        _ => type_units(text, count, &one, &none, steps),
     }
+}
+
+// All units go and these come, time after time.
+fn clear_and_fill<L: Ledger>(
+    text: &mut SpannedText,
+    count: u32,
+    all: &Incoming,
+    none: &Incoming,
+    steps: &mut Steps<L>,
+) -> Result<(), Fault>
+    requires all { IsBrought all.now }
+    requires none { IsBrought none.now }
+{
+    for _ in 0..count {
+        replace(text, 0, text.len(), none, steps)?;
+        replace(text, 0, 0, all, steps)?;
+    }
+    Ok(())
+}
+
+// The spans at places that are drawn.
+fn ask_points<L: Ledger>(
+    alloc: Global,
+    text: &SpannedText,
+    count: u32,
+    steps: &mut Steps<L>,
+) -> Result<u64, Fault> {
+    let mut random = Random::new();
+    let mut rows = Vec::new(alloc);
+    let mut found: u64 = 0;
+    for _ in 0..count {
+        let place = random.place(text.len());
+        text.spans_over(place, place, Pick::All, &mut rows, steps)?;
+        found = found.wrapping_add(rows.len() as u64);
+    }
+    Ok(found)
+}
+
+// The edges behind places that are drawn.
+fn ask_edges(text: &SpannedText, count: u32) -> u64 {
+    let mut random = Random::new();
+    let mut found: u64 = 0;
+    for _ in 0..count {
+        let place = random.place(text.len());
+        found = found.wrapping_add(u64::from(text.next_edge(place, text.len())));
+    }
+    found
 }
 
 // Units come at a cursor, which is told by the units behind it. Where the text is full, all that came goes at once: one

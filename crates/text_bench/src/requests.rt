@@ -5,7 +5,7 @@ ghost use Rattle.edit_base.specs.declared.bounds.TheConstants.Limits.{TEXT, SPAN
 
 use edit_base::Limits;
 
-/// Where units are replaced.
+/// What is measured.
 #[derive(Clone, Copy, Debug, PartialEq, Eq)]
 pub enum Kind {
     /// A unit comes at a cursor, which starts in the middle and stands behind it then.
@@ -16,9 +16,18 @@ pub enum Kind {
     Backspace,
     /// A unit becomes another at the start and at the end, in turn.
     Ends,
+    /// All units go, and as many come.
+    Clear,
+    /// A unit comes at a cursor, as above, where all spans begin.
+    Pile,
+    /// The spans at a place that is drawn are asked for.
+    Query,
+    /// The next edge behind a place that is drawn is asked for.
+    Edge,
 }
 
-/// Which replacements are measured: their kind, how many units and spans the text has at first, and how many they are.
+/// What is measured: the kind, how many units and spans the text has at first, and how often it is
+/// done.
 #[derive(Clone, Copy, Debug)]
 pub struct Request {
     pub kind: Kind,
@@ -52,18 +61,22 @@ pub fn request_of(words: &[String]) -> Option<Request>
     }
 }
 
+const KINDS: [(&str, Kind); 8] = [
+    ("cursor", Kind::Cursor),
+    ("anywhere", Kind::Anywhere),
+    ("backspace", Kind::Backspace),
+    ("ends", Kind::Ends),
+    ("clear", Kind::Clear),
+    ("pile", Kind::Pile),
+    ("query", Kind::Query),
+    ("edge", Kind::Edge),
+];
+
 fn kind_of(word: &str) -> Option<Kind> {
-    if word == "cursor" {
-        Some(Kind::Cursor)
-    } else if word == "anywhere" {
-        Some(Kind::Anywhere)
-    } else if word == "backspace" {
-        Some(Kind::Backspace)
-    } else if word == "ends" {
-        Some(Kind::Ends)
-    } else {
-        None
-    }
+    KINDS
+        .iter()
+        .find(|named| named.0 == word)
+        .map(|named| named.1)
 }
 
 // Whether the text has room for the units that come, or as many units before the middle as go. A cursor takes back what
@@ -73,9 +86,9 @@ fn has_room(request: &Request) -> bool
 {
     let room = Limits::TEXT - request.length;
     match request.kind {
-        Kind::Cursor => 0 < room,
+        Kind::Cursor | Kind::Pile => 0 < room,
         Kind::Anywhere => request.count <= room,
         Kind::Backspace => request.count <= request.length / 2,
-        Kind::Ends => true,
+        Kind::Ends | Kind::Clear | Kind::Query | Kind::Edge => true,
     }
 }

@@ -4,9 +4,10 @@ use Rattle.std.proofs.lemmas.List.{length-map}
 use Rattle.edit_base.specs.declared.kinds.What.TheVariants.{Tag}
 use Rattle.edit_base.specs.declared.rows.NewSpan.{NewSpan}
 use Rattle.edit_model.specs.Rows.{span_of}
-use Rattle.edit_model.specs.Rows.{spans_in}
+use Rattle.span_table.specs.Table.{spans_of}
 use Rattle.replace_engine.specs.Arrivals.{arrivals}
 use Rattle.replace_engine.proofs.Arrived.{next_arrives, next_within}
+use Rattle.replace_engine.proofs.Counted.{length-behind, still_trans}
 use Rattle.replace_engine.proofs.arriving.attach_spans.Goals as goal
 
 -- what stands past the spans
@@ -15,23 +16,30 @@ blank = record { id = 0; start = 0; end = 0; flags = 0; what = Tag 0 }
 
 pub attach_span-requires-clause-room : goal.attach_span-requires-clause-room
 attach_span-requires-clause-room c =
-    let now = spans_in c.loop-span.rows.items in
-    let old = spans_in c.args.rows.now.items in
+    let now = spans_of c.loop-span.moved.rows in
+    let old = spans_of c.args.moved.now.rows in
     omega (
       arith,
       next_within c.args.cut.now old c.args.spans.now c.loop-span.span-index blank (omega arith) now c.loop-span.invariant.rows,
-      ap length c.loop-span.invariant.rows,
-      length-append old (arrivals c.args.cut.now old (take c.loop-span.span-index c.args.spans.now)),
-      length-map c.loop-span.rows.items span_of,
-      length-map c.args.rows.now.items span_of,
       c.requires.room,
-      c.loop-span.invariant.capacity,
+      c.loop-span.invariant.spare,
+    )
+
+pub attach_span-requires-clause-few : goal.attach_span-requires-clause-few
+attach_span-requires-clause-few c =
+    let now = c.loop-span.moved.rows in
+    let old = c.args.moved.now.rows in
+    omega (
+      arith,
+      next_within c.args.cut.now (spans_of old) c.args.spans.now c.loop-span.span-index blank (omega arith) (spans_of now) c.loop-span.invariant.rows,
+      length-behind now old (arrivals c.args.cut.now (spans_of old) (take c.loop-span.span-index c.args.spans.now)) c.loop-span.invariant.rows,
+      c.requires.few,
     )
 
 pub attach_span-requires-clause-told : goal.attach_span-requires-clause-told
 attach_span-requires-clause-told c =
-    let now = spans_in c.loop-span.rows.items in
-    let old = spans_in c.args.rows.now.items in
+    let now = spans_of c.loop-span.moved.rows in
+    let old = spans_of c.args.moved.now.rows in
     omega (
       arith,
       next_within c.args.cut.now old c.args.spans.now c.loop-span.span-index blank (omega arith) now c.loop-span.invariant.rows,
@@ -43,8 +51,8 @@ attach_span-requires-clause-told c =
 
 pub loop-span-preserved : goal.loop-span-preserved
 loop-span-preserved c =
-    let now = spans_in c.loop-span.rows.items in
-    let old = spans_in c.args.rows.now.items in
+    let now = spans_of c.loop-span.moved.rows in
+    let old = spans_of c.args.moved.now.rows in
     let before = arrivals c.args.cut.now old (take c.loop-span.span-index c.args.spans.now) in
     let next = next_arrives c.args.cut.now old c.args.spans.now c.loop-span.span-index blank (omega arith) now c.loop-span.invariant.rows in
     let one = arrivals c.args.cut.now now (get_or c.args.spans.now c.loop-span.span-index blank ∷ []) in
@@ -52,6 +60,7 @@ loop-span-preserved c =
       rows = c.attach_span.ensures.rows ∙ ap (λ list. list ++ one) c.loop-span.invariant.rows ∙ append_assoc old before one
           ∙ ap (λ list. old ++ list) (sym next);
       added = c.attach_span.ensures.added ∙ ap (λ list. list ++ one) c.loop-span.invariant.added ∙ sym next;
-      capacity = omega (arith, c.loop-span.invariant.capacity, c.attach_span.ensures.capacity);
+      still = still_trans c.args.moved.now c.loop-span.moved c.attach_span.new.moved c.loop-span.invariant.still c.attach_span.ensures.still;
+      spare = omega (arith, c.loop-span.invariant.spare, c.attach_span.ensures.spare, ap length next, length-append before one);
       kept = omega (arith, c.loop-span.invariant.kept, c.attach_span.ensures.kept);
     }

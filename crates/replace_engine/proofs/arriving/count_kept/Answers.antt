@@ -1,22 +1,26 @@
--- The rows that are kept are the spans that stay.
-use Rattle.std.proofs.Common.{ap, sym, ◌∙◌, not, length, arith}
-use Rattle.std.specs.List.{filter}
-use Rattle.std.proofs.lemmas.List.{length-map, take_all}
-use Rattle.edit_base.specs.declared.rows.SpanRow.{SpanRow}
+-- One more span is counted where it isn't emptied.
+use Rattle.std.proofs.Common.{◌≡◌, ◌+◌, Bool, not, cond, length, ap, sym, ◌∙◌, arith}
+use Rattle.std.proofs.lemmas.List.{length-map}
+use Rattle.edit_model.specs.Replaced.{is_emptied}
 use Rattle.edit_model.specs.Rows.{span_of}
-use Rattle.edit_model.specs.Replaced.{moved_span, kept_spans}
-use Rattle.edit_model.specs.Rows.{spans_in}
-use Rattle.text_cut.specs.Halves.{joined}
-use Rattle.replace_engine.specs.Moved.{is_emptied_row}
-use Rattle.replace_engine.proofs.Moves.{kept-rows}
+use Rattle.span_table.specs.Table.{span_at, spans_of}
+use Rattle.replace_engine.proofs.Counted.{kept-more, spans_seen}
 use Rattle.replace_engine.proofs.arriving.count_kept.Goals as goal
+use Rattle.replace_engine.proofs.arriving.count_kept.Goals.{then-not-is_emptied, else-not-is_emptied}
 
-pub returns-clause-count : goal.returns-clause-count
-returns-clause-count c =
+pub loop-i-preserved : goal.loop-i-preserved
+loop-i-preserved c =
     let cut = c.args.cut.now in
-    let keep = λ (row : SpanRow). not (is_emptied_row cut.start cut.end cut.grown row) in
-    c.loop-row.invariant.count
-    ∙ ap (λ rows. length (filter keep rows)) (take_all c.loop-row.row-index c.args.rows.now (omega arith))
-    ∙ sym (length-map (filter keep c.args.rows.now) span_of)
-    ∙ ap length (kept-rows cut.start cut.end cut.grown c.args.rows.now)
-    ∙ sym (length-map (kept_spans cut.start cut.end cut.grown (spans_in c.args.rows.now)) (moved_span cut.start cut.end cut.grown (joined cut.text)))
+    let rows = c.args.rows.now in
+    let is = c.rows-in-loop-i.ensures in
+    let there : is_emptied cut.start cut.end cut.grown (span_of c.row_at.result) ≡ is_emptied cut.start cut.end cut.grown (span_at (spans_of rows) c.loop-i.i) =
+    ap (is_emptied cut.start cut.end cut.grown)
+    (c.row_at.ensures.span ∙ ap (λ spans. span_at spans c.loop-i.i) (spans_seen c.rows-in-loop-i.result.now rows is.kept is.gap is.room)) in
+    let more = kept-more (is_emptied cut.start cut.end cut.grown) (spans_of rows) c.loop-i.i
+    (simp length-map (omega (arith, ap length c.rows.ensures.kept))) c.is_emptied.result c.loop-i.count
+    c.loop-i.invariant.count (c.is_emptied.ensures ∙ there) in
+    let counted = λ (emptied : Bool). cond (not emptied) (c.loop-i.count + 1) c.loop-i.count in
+    elim c.if-not-is_emptied.branch [
+      | then-not-is_emptied w ↦ record { count = w.count-is ∙ ap counted (sym w.if-not-is_emptied.true) ∙ more; few = rw w.count-is (omega arith) }
+      | else-not-is_emptied w ↦ record { count = w.count-is ∙ ap counted (sym w.if-not-is_emptied.false) ∙ more; few = rw w.count-is (omega arith) }
+    ]

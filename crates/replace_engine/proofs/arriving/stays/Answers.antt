@@ -1,17 +1,33 @@
--- The rows that aren't emptied are the spans that stay.
-use Rattle.std.proofs.Common.{rules, ◌∙◌, ◌&&◌, not}
-use Rattle.std.proofs.lemmas.Iterator.{YieldsList-from_slice}
-use Rattle.std.proofs.lemmas.Iterator.Search.{any_from_yields_List}
-use borrow.Author.Tests.{tests}
+-- The id's span is the one at its place.
+use Rattle.std.proofs.Common.{◌≡◌, not, sym, ap, ◌∙◌}
+use Rattle.std.specs.Option.{is_some}
+use Rattle.edit_model.specs.State.{Span}
 use Rattle.edit_model.specs.Attached.{has_id}
+use Rattle.edit_model.specs.Replaced.{is_emptied}
 use Rattle.edit_model.specs.Rows.{span_of}
-use Rattle.replace_engine.specs.Moved.{is_emptied_row}
+use Rattle.span_table.specs.Table.{span_at, spans_of}
 use Rattle.replace_engine.proofs.Arrived.{attached-stayed}
+use Rattle.replace_engine.proofs.Counted.{spans_seen}
+use Rattle.replace_engine.proofs.Lists.{first_any}
+use Rattle.replace_engine.proofs.Passing.{absent_pass, distinct_spans, found_passes}
 use Rattle.replace_engine.proofs.arriving.stays.Goals as goal
 
-pub returns : goal.returns
-returns c =
-    any_from_yields_List (λ row. has_id c.args.id (span_of row) && not (is_emptied_row c.args.cut.now.start c.args.cut.now.end c.args.cut.now.grown row)) _ _ _
-    c.any.ensures.ran
-    (YieldsList-from_slice c.args.rows.now c.iter.ensures.rest) (λ x b q k. search (rules, tests))
-    ∙ attached-stayed c.args.cut.now c.args.id c.args.rows.now
+pub returns-in-Some : goal.returns-in-Some
+returns-in-Some c =
+    let cut = c.args.cut.now in
+    let rows = c.args.rows.now in
+    let is = c.rows.ensures in
+    let stays = λ (span : Span). not (is_emptied cut.start cut.end cut.grown span) in
+    let there : span_of c.row_at.result ≡ span_at (spans_of rows) c.in-Some.at =
+    c.row_at.ensures.span ∙ ap (λ spans. span_at spans c.in-Some.at) (spans_seen c.rows.result.now rows is.kept is.gap is.room) in
+    ap not c.is_emptied.ensures ∙ ap stays there
+    ∙ sym (found_passes c.args.id stays (spans_of rows) c.in-Some.at (distinct_spans rows is.distinct) (sym c.find.ensures.place ∙ c.in-Some.is))
+    ∙ attached-stayed cut c.args.id (spans_of rows)
+
+pub returns-in-None : goal.returns-in-None
+returns-in-None c =
+    let cut = c.args.cut.now in
+    let spans = spans_of c.args.rows.now in
+    sym (absent_pass c.args.id (λ span. not (is_emptied cut.start cut.end cut.grown span)) spans
+    (sym (first_any (has_id c.args.id) c.find.result spans c.find.ensures.place) ∙ ap is_some c.in-None.is))
+    ∙ attached-stayed cut c.args.id spans

@@ -2,8 +2,8 @@
 use Rattle.std.proofs.Common.{◌≡◌, ◌++◌, map}
 use Rattle.std.specs.List.{flat_map}
 use Rattle.edit_model.specs.Rows.{spans_in}
-use Rattle.replace_engine.specs.Moves.{shift_of, moved_of}
-use Rattle.replace_engine.specs.Iterated.{shifts_left}
+use Rattle.moved_rows.specs.Moves.{shift_of, moved_of}
+use Rattle.moved_rows.specs.Iterated.{shifts_left}
 use Rattle.watcher_rounds.specs.Seats.{told_moved}
 use Rattle.watcher_rounds.proofs.spans.tell_moved.Given as goal
 

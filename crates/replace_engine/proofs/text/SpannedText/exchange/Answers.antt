@@ -1,49 +1,91 @@
 -- The state is the one replaced, which is well formed and seated as before.
-use Rattle.std.proofs.Common.{◌≡◌, ◌≤◌, rules, ap, ◌∙◌, ◌+◌, length, vec_len, pos, arith}
+use Rattle.std.proofs.Common.{◌≡◌, ◌≤◌, ◌+◌, ◌-◌, rules, ap, refl, ◌∙◌, length, pos, arith}
+use Rattle.edit_base.specs.declared.bounds.TheConstants.Limits.{SPANS}
 use Rattle.edit_model.specs.declared.steps.Step.TheVariants as step
-use Rattle.edit_model.specs.Replaced.{replaced, came_spans}
+use Rattle.edit_model.specs.Replaced.{replaced}
 use Rattle.edit_model.specs.Verdicts.{judged}
 use Rattle.edit_model.specs.Changed.{stepped}
+use Rattle.edit_model.specs.Rows.{spans_in}
 use Rattle.edit_model.proofs.EditedStates.{well_formed-stepped, seated-stepped}
-use Rattle.edit_model.specs.Rows.{state_of}
-use Rattle.replace_engine.proofs.Sound.{rows_over, formed_as, seated_as, sound_with, keeps_trans}
-use Rattle.replace_engine.proofs.Exchanged.{came-by, few-by, spare_exchanged}
+use Rattle.edit_model.proofs.Splices.{length-spliced}
+use Rattle.span_table.specs.Table.{spans_of}
+use Rattle.text_cut.specs.Coming.{all_coming}
+use Rattle.replace_engine.specs.declared.exchanging.Exchange.{Exchange}
+use Rattle.replace_engine.specs.Changes.{effect_of}
+use Rattle.replace_engine.specs.Exchange.{comes}
+use Rattle.replace_engine.specs.Rows.{state_with}
+use Rattle.replace_engine.proofs.Exchanged.{few_come}
+use Rattle.replace_engine.proofs.Lists.{on_err, same_seen}
+use Rattle.replace_engine.proofs.MovedLaws.{still_tells}
+use Rattle.replace_engine.proofs.Sound.{formed_as, room_kept, seated_as, told_still}
+use Rattle.replace_engine.proofs.Spans.{effect_from}
 use Rattle.replace_engine.proofs.text.SpannedText.exchange.Given as given
 use Rattle.replace_engine.proofs.text.SpannedText.exchange.Goals as goal
 
-pub exchange_spans-requires-clause-over : goal.exchange_spans-requires-clause-over
-exchange_spans-requires-clause-over g c =
-    rw (c.new-cut.ensures.text ∙ c.halves_of-text.ensures.joined ∙ c.reserve.ensures.units, c.reserve_rows.ensures.rows)
-    (rows_over c.self.inside.units.units c.self.inside.rows.items c.self.invariant.formed)
+-- room for more rows changes neither the state nor what is told
+pub returns-in_err-reserve-2-clause-err : goal.returns-in_err-reserve-2-clause-err
+returns-in_err-reserve-2-clause-err g c =
+    let same = c.reserve-2.ensures in
+    let still = same.still in
+    let spans = same_seen c.reserve-2.new.self.moved.rows c.self.inside.change.moved.rows same.rows still.gap still.room in
+    on_err c.from_residual-in_err-reserve-2.result (
+      rw (c.reserve.ensures.units, spans) (ap (λ seen. seen.state) c.self.view_is),
+      effect_from _ _ _ (effect_of c.self.inside.change) same.start same.old_end same.grown (ap spans_in same.removed)
+          (still_tells c.self.inside.change.moved c.reserve-2.new.self.moved still.before still.told spans) (ap spans_in same.added)
+          ∙ ap (λ seen. seen.effect) c.self.view_is,
+      c.reserve.ensures.gap ∙ ap (λ seen. seen.gap) c.self.view_is,
+    )
 
-pub exchange_spans-requires-clause-room : goal.exchange_spans-requires-clause-room
-exchange_spans-requires-clause-room g c =
-    let few = few-by c.args.self.now.state c.args.start c.args.end c.args.incoming.now c.self.inside.units.units c.reserve_rows.new.rows.items c.new-cut.result
-    c.coming_with-coming.result
-    (ap (λ rows. state_of c.self.inside.units.units rows) c.reserve_rows.ensures.rows ∙ ap (λ seen. seen.state) c.self.view_is)
-    (c.new-cut.ensures.text ∙ c.halves_of-text.ensures.joined ∙ c.reserve.ensures.units)
-    (c.new-cut.ensures.brought ∙ c.as_slice.ensures) (c.new-cut.ensures.grown ∙ ap length c.as_slice.ensures)
-    c.new-cut.ensures.start c.new-cut.ensures.end c.coming_with-coming.ensures.coming c.requires.few in
-    omega (arith, few.0, few.1, ap length c.reserve_rows.ensures.rows, c.in_ok-reserve_rows.ensures.ok, c.min-most.ensures, c.len-2.ensures)
+-- nor what holds of every text
+pub invariant_of-self-in_err-reserve-2 : goal.invariant_of-self-in_err-reserve-2
+invariant_of-self-in_err-reserve-2 g c =
+    let same = c.reserve-2.ensures in
+    let still = same.still in
+    let spans = same_seen c.reserve-2.new.self.moved.rows c.self.inside.change.moved.rows same.rows still.gap still.room in
+    record {
+      formed = rw (c.reserve.ensures.units, spans) c.self.invariant.formed;
+      room = room_kept c.self.inside.change c.reserve-2.new.self _ _ _ _ (omega (arith, ap length same.rows)) same.touched same.room c.self.invariant.room;
+      told = told_still c.self.inside.change c.reserve-2.new.self same.rows still same.added c.self.invariant.told;
+      place = omega (arith, still.gap, c.reserve.ensures.gap, c.self.invariant.place);
+      width = omega (arith, still.room, ap length c.reserve.ensures.units, c.self.invariant.width);
+    }
+
+-- what is asked for, and that no more spans come than there is room for
+module _ (g : given.Over) (c : goal.After-exchange_spans-arg-3-1 g) where
+  asked : Exchange
+  asked = record { text = c.halves_of.result; start = c.args.start; end = c.args.end; brought = c.as_slice.result; coming = c.coming_with-coming.result }
+
+  spans : spans_of c.reserve-2.new.self.moved.rows ≡ spans_of c.self.inside.change.moved.rows
+  spans =
+      let still = c.reserve-2.ensures.still in
+      same_seen c.reserve-2.new.self.moved.rows c.self.inside.change.moved.rows c.reserve-2.ensures.rows still.gap still.room
+
+  few : (length (comes asked (spans_of c.reserve-2.new.self.moved.rows)) ≤ length (all_coming asked.coming))
+      × (length (comes asked (spans_of c.reserve-2.new.self.moved.rows)) ≤ SPANS)
+  unfolding asked
+  few = few_come c.args.self.now.state c.args.start c.args.end c.args.incoming.now asked (spans_of c.reserve-2.new.self.moved.rows)
+      (rw (c.halves_of.ensures.joined, c.reserve.ensures.units, spans) (ap (λ seen. seen.state) c.self.view_is))
+      c.as_slice.ensures refl refl c.coming_with-coming.ensures.coming c.requires.few
+
+pub exchange_spans-requires-clause-spare : goal.exchange_spans-requires-clause-spare
+unfolding asked
+exchange_spans-requires-clause-spare g c =
+    let come = few g c in omega (arith, come.0, come.1, c.in_ok-reserve-2.ensures.spare, c.min-most.ensures, c.len-2.ensures)
 
 pub exchange_spans-requires-clause-added : goal.exchange_spans-requires-clause-added
+unfolding asked
 exchange_spans-requires-clause-added g c =
-    let few = few-by c.args.self.now.state c.args.start c.args.end c.args.incoming.now c.self.inside.units.units c.reserve_rows.new.rows.items c.new-cut.result
-    c.coming_with-coming.result
-    (ap (λ rows. state_of c.self.inside.units.units rows) c.reserve_rows.ensures.rows ∙ ap (λ seen. seen.state) c.self.view_is)
-    (c.new-cut.ensures.text ∙ c.halves_of-text.ensures.joined ∙ c.reserve.ensures.units)
-    (c.new-cut.ensures.brought ∙ c.as_slice.ensures) (c.new-cut.ensures.grown ∙ ap length c.as_slice.ensures)
-    c.new-cut.ensures.start c.new-cut.ensures.end c.coming_with-coming.ensures.coming c.requires.few in
-    omega (arith, few.0, few.1, c.in_ok-reserve_rows.ensures.told.added, c.min-most.ensures, c.len-2.ensures)
+    let come = few g c in omega (arith, come.0, come.1, c.in_ok-reserve-2.ensures.ok.added, c.min-most.ensures, c.len-2.ensures)
 
-after : (g : given.Over) (c : goal.After-replace g) → state_of c.replace.new.self.units c.exchange_spans.new.rows.items
+after : (g : given.Over) (c : goal.After-replace g) → state_with c.replace.new.self.units c.exchange_spans.new.change.moved.rows
     ≡ replaced c.args.self.now.state c.args.start c.args.end c.args.incoming.now
 after g c = search rules
 
 pub returns-clause-well_formed : goal.returns-clause-well_formed
 unfolding stepped
 returns-clause-well_formed g c =
-    formed_as (replaced c.args.self.now.state c.args.start c.args.end c.args.incoming.now) _ _ (ap (λ state. state.units) (after g c))
+    formed_as (replaced c.args.self.now.state c.args.start c.args.end c.args.incoming.now) _ c.exchange_spans.new.change.moved.rows
+    (ap (λ state. state.units) (after g c))
     (ap (λ state. state.spans) (after g c))
     (well_formed-stepped c.args.self.now.state 0
     (step.Replace (pos c.args.start) (pos c.args.end) c.args.incoming.now) c.requires.done c.requires.brought.ordered
@@ -55,36 +97,51 @@ returns-clause-seated g c = λ slots seated.
     seated_as slots _ _ (ap (λ state. state.spans) (after g c))
     (seated-stepped c.args.self.now.state slots (step.Replace (pos c.args.start) (pos c.args.end) c.args.incoming.now) c.requires.done seated)
 
--- no more rows stand than stood and as many as there is room for
 module _ (g : given.Over) (c : goal.After-replace g) where
-  come : length c.exchange_spans.new.rows.items
-      ≤ length c.self.inside.rows.items + length (came_spans c.args.self.now.state c.args.start c.args.end c.args.incoming.now)
-  come =
-      let came = came-by c.args.self.now.state c.args.start c.args.end c.args.incoming.now c.self.inside.units.units c.reserve_rows.new.rows.items
-      c.new-cut.result c.coming_with-coming.result
-      (ap (λ rows. state_of c.self.inside.units.units rows) c.reserve_rows.ensures.rows ∙ ap (λ seen. seen.state) c.self.view_is)
-      (c.new-cut.ensures.text ∙ c.halves_of-text.ensures.joined ∙ c.reserve.ensures.units)
-      (c.new-cut.ensures.brought ∙ c.as_slice.ensures) (c.new-cut.ensures.grown ∙ ap length c.as_slice.ensures)
-      c.new-cut.ensures.start c.new-cut.ensures.end c.coming_with-coming.ensures.coming in
-      omega (arith, c.exchange_spans.ensures.count, ap length came, ap length c.reserve_rows.ensures.rows)
+  asked_then : Exchange
+  asked_then =
+      record { text = c.halves_of.result; start = c.args.start; end = c.args.end; brought = c.as_slice.result; coming = c.coming_with-coming.result }
 
-  within : length c.exchange_spans.new.rows.items ≤ vec_len c.self.inside.rows + c.min-most.result
+  -- no more rows stand than stood and as many as there is room for
+  within : length c.exchange_spans.new.change.moved.rows.kept ≤ length c.self.inside.change.moved.rows.kept + c.min-most.result
+  unfolding asked_then
   within =
-      let few = few-by c.args.self.now.state c.args.start c.args.end c.args.incoming.now c.self.inside.units.units c.reserve_rows.new.rows.items
-      c.new-cut.result c.coming_with-coming.result
-      (ap (λ rows. state_of c.self.inside.units.units rows) c.reserve_rows.ensures.rows ∙ ap (λ seen. seen.state) c.self.view_is)
-      (c.new-cut.ensures.text ∙ c.halves_of-text.ensures.joined ∙ c.reserve.ensures.units)
-      (c.new-cut.ensures.brought ∙ c.as_slice.ensures) (c.new-cut.ensures.grown ∙ ap length c.as_slice.ensures)
-      c.new-cut.ensures.start c.new-cut.ensures.end c.coming_with-coming.ensures.coming c.requires.few in
-      omega (arith, c.exchange_spans.ensures.count, few.0, few.1, ap length c.reserve_rows.ensures.rows, c.min-most.ensures, c.len-2.ensures)
+      let still = c.reserve-2.ensures.still in
+      let spans = same_seen c.reserve-2.new.self.moved.rows c.self.inside.change.moved.rows c.reserve-2.ensures.rows still.gap still.room in
+      let come = few_come c.args.self.now.state c.args.start c.args.end c.args.incoming.now asked_then (spans_of c.reserve-2.new.self.moved.rows)
+      (rw (c.halves_of.ensures.joined, c.reserve.ensures.units, spans) (ap (λ seen. seen.state) c.self.view_is))
+      c.as_slice.ensures refl refl c.coming_with-coming.ensures.coming c.requires.few in
+      omega (arith, come.0, come.1, c.exchange_spans.ensures.count, ap length c.reserve-2.ensures.rows, c.min-most.ensures, c.len-2.ensures)
+
+  -- the units that stand then
+  long : length c.replace.new.self.units + (c.args.end - c.args.start) ≡ length c.self.inside.units.units + length c.args.incoming.now.units
+  long =
+      let now = ap (λ seen. length seen.state.units) c.self.view_is in
+      omega (
+        arith,
+        now,
+        ap (λ state. length state.units) (after g c),
+        length-spliced c.args.self.now.state.units c.args.start c.args.end c.args.incoming.now.units c.requires.order c.requires.within,
+        c.requires.order,
+        c.requires.within,
+      )
 
 pub invariant_of-self-2 : goal.invariant_of-self-2
-invariant_of-self-2 g c =
-    sound_with _ _ _ c.reserve_rows.new.change _ (within g c) c.exchange_spans.ensures.lists c.in_ok-reserve_rows.ensures.told (returns-clause-well_formed g c)
-    c.exchange_spans.ensures.tells
-
-pub returns-clause-spare_spans : goal.returns-clause-spare_spans
-returns-clause-spare_spans g c =
-    rw (← ap (λ seen. seen.spare_spans) c.self.view_is)
-    (spare_exchanged _ _ _ _ _ _ _ (omega (arith, c.reserve_rows.ensures.capacity, c.exchange_spans.ensures.capacity))
-    (keeps_trans _ _ _ c.reserve_rows.ensures.lists c.exchange_spans.ensures.lists) (come g c))
+invariant_of-self-2 g c = record {
+  formed = returns-clause-well_formed g c;
+  room = room_kept c.reserve-2.new.self c.exchange_spans.new.change _ _ _ _ (within g c) c.exchange_spans.ensures.touched c.exchange_spans.ensures.lists
+      c.in_ok-reserve-2.ensures.ok;
+  told = c.exchange_spans.ensures.tells;
+  place = search rules;
+  width = omega (
+    arith,
+    long g c,
+    c.exchange_spans.ensures.gap_room,
+    c.reserve-2.ensures.still.room,
+    c.self.invariant.width,
+    ap length c.as_slice.ensures,
+    c.requires.order,
+    c.requires.within,
+    ap (λ seen. length seen.state.units) c.self.view_is,
+  );
+}

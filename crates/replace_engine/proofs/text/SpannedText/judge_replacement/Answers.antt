@@ -1,17 +1,17 @@
 -- Where the verdict is done, every test was passed.
-use Rattle.std.proofs.Common.{◌≡◌, ap, sym, ◌∙◌, w32}
+use Rattle.std.proofs.Common.{◌≡◌, ap, refl, sym, ◌∙◌, w32}
 use Rattle.std.proofs.lemmas.Int.{to_z-of_z}
 use Rattle.edit_base.specs.declared.verdicts.Verdict.TheVariants.{Done}
 use Rattle.edit_model.proofs.Tables.{least_place, least_end, ordered_places, greatest_place}
 use Rattle.edit_model.proofs.EditedStates.{Passes, passes}
-use Rattle.edit_model.specs.Rows.{state_of}
 use Rattle.text_cut.specs.Halves.{joined}
+use Rattle.replace_engine.specs.Rows.{state_with}
 use Rattle.replace_engine.proofs.text.SpannedText.judge_replacement.Goals as goal
 
 pub returns-clause-verdict : goal.returns-clause-verdict
 returns-clause-verdict c =
-    let state : state_of (joined c.halves_of.result) c.deref.result.now ≡ c.args.self.now.state =
-    rw (c.halves_of.ensures.joined, c.deref.ensures.value) (ap (λ seen. seen.state) c.self.view_is) in
+    let state : state_with (joined c.halves_of.result) c.index.result.now ≡ c.args.self.now.state =
+    rw (c.halves_of.ensures.joined, c.index.ensures.spans, ap (λ seen. seen.state.units) c.self.view_is) refl in
     λ slots. rw (← state, ← to_z-of_z w32 c.args.start c.ranges.start, ← to_z-of_z w32 c.args.end c.ranges.end) (c.judge_replace.ensures.verdict slots)
 
 passed : (c : goal.After-judge_replace) → c.judge_replace.result ≡ Done → Passes c.args.self.now.state c.args.start c.args.end c.args.incoming.now
