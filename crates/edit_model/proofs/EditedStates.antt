@@ -2,7 +2,7 @@
 use Rattle.std.proofs.Common.{◌≡◌, ℕ, ℤ, pos, ◌<◌, ◌≤◌, ◌&&◌, Bool, true, false, not, length, refl, sym, ap, ◌∙◌, inl, inr, arith}
 use Rattle.std.specs.Ordering.{int_eq}
 use Rattle.std.specs.List.{All}
-use Rattle.std.proofs.lemmas.Bool.{or_parts, ltb-false, cases_lt, false≢true}
+use Rattle.std.proofs.lemmas.Bool.{or_parts, ltb-false, eqb-false, cases_lt, false≢true}
 use Rattle.std.proofs.lemmas.Bool.Decides.{Decides-int_eq}
 use Rattle.edit_base.specs.declared.kinds.What.{What}
 use Rattle.edit_base.specs.declared.bounds.TheConstants.Limits.{TEXT, SPANS}
@@ -18,11 +18,13 @@ use Rattle.edit_model.specs.Boundaries.{is_boundary}
 use Rattle.edit_model.specs.WellFormed.{IsSpanOver, IsWellFormed, IsSeated, is_kept_what}
 use Rattle.edit_model.specs.Brought.{IsOrdered}
 use Rattle.edit_model.specs.Laws.{BringsOrdered}
-use Rattle.edit_model.specs.Verdicts.{first_of, replace_lines, set_lines, remove_lines, judged, is_kept_id}
+use Rattle.edit_model.specs.Verdicts.{first_of, replace_lines, set_lines, remove_lines, select_lines, mark_lines, judged, is_kept_id}
+use Rattle.edit_model.specs.Selection.{has_region, is_of_selection, is_dropped}
 use Rattle.edit_model.specs.Changed.{on_done, stepped, state_after}
 use Rattle.edit_model.proofs.Tables.{none_applies, NoneApplies, places_pass}
 use Rattle.edit_model.proofs.Newcomers.{all_may_come, kept_right-free}
 use Rattle.edit_model.proofs.Replacements.{well_formed-replaced, seated-replaced}
+use Rattle.edit_model.proofs.Selections.{places_within, well_formed-selected, seated-selected, well_formed-deselected, well_formed-dropped, seated-filter, well_formed-marked, seated-marked}
 use Rattle.edit_model.proofs.AttachedSpans.{well_formed-with_span, seated-with_span, well_formed-without_span, seated-without_span}
 
 -- ---- what the tests of a table say where they don't apply
@@ -123,14 +125,38 @@ well_formed-remove state id is_done formed =
     let n = none_applies (remove_lines state id) refl is_done in
     well_formed-without_span state id (ltb-false _ _ n.0) formed
 
+-- ---- the selection and the composing region
+
+pub well_formed-select : (state : State) (start end : ℤ) → first_of (select_lines state start end) ≡ Done → IsWellFormed state
+    → IsWellFormed (stepped state (step.Select start end))
+unfolding stepped
+well_formed-select state start end is_done formed =
+    let n = none_applies (select_lines state start end) refl is_done in
+    let within = places_within (length state.units) start end n.0 in
+    well_formed-selected (place start) (place end) state within.0 within.1 (ltb-false _ _ n.1.1.1.0) formed
+
+pub well_formed-mark : (state : State) (start end : ℕ) → first_of (mark_lines state start end) ≡ Done → start ≤ end → has_region state.spans ≡ false
+    → IsWellFormed state → IsWellFormed (stepped state (step.Mark start end))
+unfolding stepped
+well_formed-mark state start end is_done ordered none formed =
+    let n = none_applies (mark_lines state start end) refl is_done in
+    let within = places_within (length state.units) (pos start) (pos end) n.0 in
+    let apart = eqb-false start end n.1.0 in
+    well_formed-marked state start end (omega (arith, apart, ordered)) within.1 none (ltb-false _ _ n.1.1.0) formed
+
 -- ---- every edit
 
 pub well_formed-stepped : (state : State) (slots : ℕ) (asked : Step)
-    → judged state slots asked ≡ Done → BringsOrdered asked → IsWellFormed state → IsWellFormed (stepped state asked)
-unfolding judged
+    → judged state slots asked ≡ Done → BringsOrdered state asked → IsWellFormed state → IsWellFormed (stepped state asked)
+unfolding judged stepped
 well_formed-stepped state slots (step.Replace start end incoming) is_done in_order formed = well_formed-replace state start end incoming is_done in_order formed
 well_formed-stepped state slots (step.Set id start end flags what) is_done in_order formed = well_formed-set state slots id start end flags what is_done formed
 well_formed-stepped state slots (step.Remove id) is_done in_order formed = well_formed-remove state id is_done formed
+well_formed-stepped state slots (step.Select start end) is_done in_order formed = well_formed-select state start end is_done formed
+well_formed-stepped state slots step.Deselect is_done in_order formed = well_formed-deselected state formed
+well_formed-stepped state slots step.Drop is_done in_order formed = well_formed-dropped state formed
+well_formed-stepped state slots (step.Mark start end) is_done in_order formed =
+    well_formed-mark state start end is_done in_order.0 in_order.1 formed
 
 pub seated-stepped : (state : State) (slots : ℕ) (asked : Step) → judged state slots asked ≡ Done
     → IsSeated slots state.spans → IsSeated slots (stepped state asked).spans
@@ -138,6 +164,10 @@ unfolding judged stepped
 seated-stepped state slots (step.Replace start end incoming) is_done seated = seated-replace slots state start end incoming is_done seated
 seated-stepped state slots (step.Set id start end flags what) is_done seated = seated-set state slots id start end flags what is_done seated
 seated-stepped state slots (step.Remove id) is_done seated = seated-without_span slots id state.spans seated
+seated-stepped state slots (step.Select start end) is_done seated = seated-selected (place start) (place end) slots state.spans seated
+seated-stepped state slots step.Deselect is_done seated = seated-filter slots (λ span. not (is_of_selection span)) state.spans seated
+seated-stepped state slots step.Drop is_done seated = seated-filter slots (λ span. not (is_dropped span)) state.spans seated
+seated-stepped state slots (step.Mark start end) is_done seated = seated-marked slots start end state.spans seated
 
 -- what holds of the state of an edit that is done, and of the state before, holds of the state after
 by_verdict : (P : State → Type 0) (verdict : Verdict) (done kept : State) → (verdict ≡ Done → P done) → P kept → P (on_done verdict done kept)
@@ -147,7 +177,7 @@ by_verdict P Ignored done kept changed same = same
 by_verdict P Absent done kept changed same = same
 by_verdict P (Refused refusal) done kept changed same = same
 
-pub well_formed-after : (state : State) (slots : ℕ) (asked : Step) → BringsOrdered asked → IsWellFormed state → IsWellFormed (state_after state slots asked)
+pub well_formed-after : (state : State) (slots : ℕ) (asked : Step) → BringsOrdered state asked → IsWellFormed state → IsWellFormed (state_after state slots asked)
 well_formed-after state slots asked in_order formed =
     by_verdict IsWellFormed (judged state slots asked) (stepped state asked) state
     (λ is_done. well_formed-stepped state slots asked is_done in_order formed) formed

@@ -13,7 +13,8 @@ use Rattle.edit_model.specs.State.{State, place, ArePlaces}
 use Rattle.edit_model.specs.Attached.{is_attached}
 use Rattle.edit_model.specs.Replaced.{spliced_length}
 use Rattle.edit_model.specs.declared.steps.Step.TheVariants as step
-use Rattle.edit_model.specs.Verdicts.{judged, is_kept_id, lacks_slot, goes_beyond, goes_below, breaks_paragraph, is_ignored, brings_reserved, brings_bad_flags, changes_nothing, length_after, span_count_after_set}
+use Rattle.edit_model.specs.Verdicts.{judged, is_kept_id, lacks_slot, goes_beyond, goes_below, breaks_paragraph, is_ignored, brings_reserved, brings_bad_flags, changes_nothing, length_after, span_count_after_set, span_count_after_select, is_selected}
+use Rattle.edit_model.specs.Selection.{has_selection}
 use Rattle.edit_model.specs.Flags.{is_bad}
 use Rattle.edit_model.specs.WellFormed.{is_kept_what}
 use Rattle.edit_model.proofs.Tables.{places_pass}
@@ -66,3 +67,18 @@ full-is_short state slots start end incoming is =
     let f = past (changes_nothing state start end incoming) NoChange _ (λ h. cc) e.1 in
     let g = past (nat_lt TEXT (length_after state start end incoming)) (Refused TooLong) _ (λ h. cc) f.1 in
     record { places = places_pass (length state.units) start end c.0 d.0 e.0; short = ltb-false _ _ g.0 }
+
+two_counted : (attached : Bool) (count : ℕ) → count ≤ SPANS
+    → nat_lt SPANS (cond attached count (count + 2)) ≡ true → cond attached count (count + 2) ≡ count + 2
+two_counted true count few over = absurd (grind (arith, nat_tests))
+two_counted false count few over = refl
+
+-- a select that is refused since too many spans would stand would have added two
+pub full-adds_two : (state : State) (slots : ℕ) (start end : ℤ) → length state.spans ≤ SPANS
+    → judged state slots (step.Select start end) ≡ Refused SpansFull → span_count_after_select state ≡ length state.spans + 2
+unfolding judged
+full-adds_two state slots start end few is =
+    let a = past (goes_beyond state start end) (Refused Beyond) _ (λ h. cc) is in
+    let b = past (goes_below start end) (Refused Below) _ (λ h. cc) a.1 in
+    let c = past (is_selected state start end) NoChange _ (λ h. cc) b.1 in
+    two_counted (has_selection state.spans) (length state.spans) few (last (nat_lt SPANS (span_count_after_select state)) _ (λ h. cc) c.1)

@@ -14,6 +14,7 @@ pub mod OverLists
 pub mod Newcomers
 pub mod Replacements
 pub mod AttachedSpans
+pub mod Selections
 pub mod EditedStates
 pub mod Watchers
 pub mod FilterLaws
@@ -21,5 +22,9 @@ pub mod Unfiltered
 pub mod SpanEvents
 pub mod MachineRuns
 pub mod Outcomes
+pub mod SelectionPlaces
+pub mod PlannedItems
+pub mod KeptOutcomes
+pub mod Regions
 pub mod Answering
 pub mod Shelving

@@ -1,5 +1,5 @@
 -- The agenda machine leads to what an item comes to.
-use Rattle.std.proofs.Common.{◌≡◌, ◌∙◌, ℕ, zero, suc, ◌+◌, ◌<◌, Bool, true, false, cond, List, [], ◌∷◌, ◌++◌, map, refl, sym, ap, subst, append_assoc, arith}
+use Rattle.std.proofs.Common.{◌≡◌, ◌∙◌, ℕ, zero, suc, ◌+◌, ◌<◌, Bool, true, false, cond, List, [], ◌∷◌, ◌++◌, map, refl, sym, ap, subst, append_assoc, append-nil, arith}
 use Rattle.std.specs.List.{AllByRecursion}
 use Rattle.std.proofs.lemmas.Bool.Decides.{nat_tests}
 use Rattle.edit_base.specs.declared.edits.Edit.{Edit}
@@ -14,8 +14,8 @@ use Rattle.edit_model.specs.State.{State}
 use Rattle.edit_model.specs.Changed.{on_done}
 use Rattle.edit_model.specs.Minds.{answer_after, answer_span}
 use Rattle.edit_model.specs.Events.{listeners, text_event, span_callbacks}
-use Rattle.edit_model.specs.Machine.{Setup, Scene, Task, at, run_item, do_rest, make_change, tell_before, tell_changed, tell_after, tell_span, rest_of, asked_by, resolved, is_barred, verdict_at, as_brought, events, sets_off, edit_logged, with_one_begun, answer_begun, changed_by, mind_in, Leads, Ends}
-use Rattle.edit_model.specs.Outcome.{Answered, told_each, before_told, changed_told, after_told, span_told, behind_change, behind_edit, behind_answer, answered_at, outcome}
+use Rattle.edit_model.specs.Machine.{Setup, Scene, Task, at, run_item, do_rest, make_change, tell_before, tell_changed, tell_after, tell_span, rest_of, asked_by, resolved, is_barred, verdict_at, as_brought, events, sets_off, edit_logged, with_one_begun, answer_begun, changed_by, mind_in, Reaches, Leads, Ends}
+use Rattle.edit_model.specs.Outcome.{Answered, told_each, before_told, changed_told, after_told, span_told, behind_change, behind_edit, behind_answer, answered_at, outcome, outcomes}
 use Rattle.edit_model.proofs.SpanLists.{all_each, all-weaker}
 use Rattle.edit_model.proofs.SpanEvents.{HasDepth, depth-span_callbacks}
 use Rattle.edit_model.proofs.MachineRuns.{leads_none, leads_on, leads_then, leads_first}
@@ -39,6 +39,10 @@ unfolding text_event
 depth-text_event depth (ask.Replace start end incoming) = refl
 depth-text_event depth (ask.Set id start end flags what) = refl
 depth-text_event depth (ask.Remove id) = refl
+depth-text_event depth (ask.Select start end) = refl
+depth-text_event depth ask.Deselect = refl
+depth-text_event depth ask.Drop = refl
+depth-text_event depth (ask.Mark start end) = refl
 
 -- the answers at a depth lead to what a function makes of them
 abbrev AnswersMake : Setup → ℕ → Answered → Type 0
@@ -154,3 +158,9 @@ ends-outcome r it old = (leads-outcome r it old).run []
 
 pub every_run_ends : (r : Setup) (it : Item) (old : Scene) → (new : Scene) × Ends r it old new
 every_run_ends r it old = (outcome r it old, ends-outcome r it old)
+
+-- the items of a command, one behind the other
+pub ends-outcomes : (r : Setup) (items : List Item) (old : Scene) → Reaches r (at old (map run_item items)) (at (outcomes r items old) [])
+ends-outcomes r items old =
+    subst (λ tasks. Reaches r (at old tasks) (at (outcomes r items old) [])) (append-nil (map run_item items))
+    ((makes_all r run_item (outcome r) items (all_each (λ it. Makes r (run_item it ∷ []) (outcome r it)) (leads-outcome r) items) old).run [])

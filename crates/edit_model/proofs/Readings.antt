@@ -15,12 +15,12 @@ use Rattle.edit_model.specs.declared.commands.Command.{Command}
 use Rattle.edit_model.specs.declared.faults.TraceFault.{TraceFault}
 use Rattle.edit_model.specs.declared.faults.TraceFault.TheVariants as fault
 use Rattle.edit_base.specs.declared.rows.TheConstants.Incoming.{MOST}
-use Rattle.edit_model.specs.Brought.{IsOrdered}
+use Rattle.edit_model.specs.Brought.{IsOrdered, IsBrought}
 use Rattle.edit_model.specs.Words.{as_span, words_of, span_by_words, ordered_span, whole_number, what_by_words, greatest_id}
 use Rattle.edit_model.specs.declared.operations.Op.{Op}
-use Rattle.edit_model.specs.declared.operations.Op.TheVariants.{Replace}
+use Rattle.edit_model.specs.declared.operations.Op.TheVariants.{Replace, Compose, Commit}
 use Rattle.edit_model.specs.Operations.{operation}
-use Rattle.edit_model.specs.Reading.{utf16, as_incoming, text_of, text_in, value_in, spans_said, as_few, spans_or_none, spans_in}
+use Rattle.edit_model.specs.Reading.{utf16, as_incoming, text_of, text_in, value_in, spans_said, as_few, spans_or_none, spans_in, incoming_in}
 use Rattle.edit_model.specs.Reading.{op_in, first_fault, fault_lines, unless_fault, command_in, read_operation, read_object, read_value, json_of}
 use Rattle.edit_model.specs.Reading.{read_command, IsFitting}
 
@@ -106,14 +106,19 @@ few_or_none (Some value) = few_of (option_and_then spans_said (as_array value)) 
 few_in : (name : List ℕ) (members : Members) → AreFewOrdered (spans_in name members)
 few_in name members = or_else AreFewOrdered (spans_or_none (value_in name members)) [] (few_or_none (value_in name members)) (omega arith, tt)
 
-fits_command : (op : Op) (members : Members) → IsFitting (command_in op members)
-fits_command Replace members =
+brought_in : (members : Members) → IsBrought (incoming_in members)
+brought_in members =
     let few = few_in (codes "spans") members in
     record {
       units = short_text_in (codes "text") members;
       spans = few.0;
       ordered = All-from_recursion IsOrdered (spans_in (codes "spans") members) few.1;
     }
+
+fits_command : (op : Op) (members : Members) → IsFitting (command_in op members)
+fits_command Replace members = brought_in members
+fits_command Compose members = brought_in members
+fits_command Commit members = brought_in members
 fits_command _ _ = tt
 
 fits_unless : (found : Option TraceFault) (asked : Command) → IsFitting asked → IfOk (unless_fault found asked) IsFitting

@@ -1,5 +1,5 @@
 -- What an edit tells of spans: how deep, to which slots, and of which places.
-use Rattle.std.proofs.Common.{◌≡◌, ◌≤◌, ◌<◌, ◌&&◌, ◌||◌, ℕ, Bool, true, false, not, cond, List, [], ◌∷◌, ◌++◌, map, length, refl, subst, ⊎_elim, arith}
+use Rattle.std.proofs.Common.{◌≡◌, ◌≤◌, ◌<◌, ◌&&◌, ◌||◌, ℕ, Bool, true, false, not, cond, List, [], ◌∷◌, ◌++◌, map, length, refl, sym, subst, ⊎_elim, arith, append-nil}
 use Rattle.std.specs.Prelude.{filter}
 use Rattle.std.specs.List.{AllByRecursion, flat_map}
 use Rattle.std.proofs.lemmas.Bool.{cond_both, cases_Bool}
@@ -16,6 +16,7 @@ use Rattle.edit_model.specs.declared.steps.Step.TheVariants as ask
 use Rattle.edit_model.specs.State.{Span, State, place}
 use Rattle.edit_model.specs.Attached.{has_id, is_attached, with_span, spans_of}
 use Rattle.edit_model.specs.Changed.{Shift, Effect, change_of, stepped, has_moved, shifts_by, spans_effect}
+use Rattle.edit_model.specs.Selection.{selection_start, selection_end, is_of_selection, has_selection, with_ends, region_span, is_dropped}
 use Rattle.edit_model.specs.Replaced.{is_emptied, moved_span, kept_spans, came_spans}
 use Rattle.edit_model.specs.Over.{lies_over, is_picked, is_watch, over}
 use Rattle.edit_model.specs.WellFormed.{HasSlot, IsSeated, IsSpanOver, IsWellFormed}
@@ -181,6 +182,31 @@ short-effect state (ask.Set id start end flags what) old new =
     })
     (λ is. record { removed = tt; moved = tt; added = (short, tt) })
 short-effect state (ask.Remove id) old new = record { removed = all-filter IsShort (has_id id) state.spans old; moved = tt; added = tt }
+short-effect state (ask.Select start end) old new =
+    let move = with_ends (place start) (place end) in
+    let came : List Span = selection_start (place start) ∷ selection_end (place end) ∷ [] in
+    ⊎_elim (λ is.
+    subst (λ b. IsShortEffect (cond b (spans_effect [] (filter has_moved (shifts_by move state.spans)) []) (spans_effect [] [] came))) (sym is)
+    (record {
+      removed = tt;
+      moved = all-filter IsShortShift has_moved (shifts_by move state.spans)
+          (shifts-short move state.spans old (all-given IsShort move state.spans []
+          (subst (AllByRecursion IsShort) (sym (append-nil (map move state.spans)))
+          (subst (λ b. AllByRecursion IsShort (cond b (map move state.spans) (state.spans ++ came))) is new))));
+      added = tt;
+    }))
+    (λ is.
+    subst (λ b. IsShortEffect (cond b (spans_effect [] (filter has_moved (shifts_by move state.spans)) []) (spans_effect [] [] came))) (sym is)
+    (record {
+      removed = tt;
+      moved = tt;
+      added = all-end IsShort state.spans came (subst (λ b. AllByRecursion IsShort (cond b (map move state.spans) (state.spans ++ came))) is new);
+    }))
+    (cases_Bool (has_selection state.spans))
+short-effect state ask.Deselect old new = record { removed = all-filter IsShort is_of_selection state.spans old; moved = tt; added = tt }
+short-effect state ask.Drop old new = record { removed = all-filter IsShort is_dropped state.spans old; moved = tt; added = tt }
+short-effect state (ask.Mark start end) old new =
+    record { removed = tt; moved = tt; added = all-end IsShort state.spans (region_span start end ∷ []) new }
 
 -- ---- an edit's callbacks
 

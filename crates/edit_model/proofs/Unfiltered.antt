@@ -117,3 +117,7 @@ does-unfiltered state (step.Replace start end incoming) =
     (λ is. does-clipped state start end incoming) (λ is. same_as_itself state (step.Replace start end incoming))
 does-unfiltered state (step.Set id start end flags what) = same_as_itself state (step.Set id start end flags what)
 does-unfiltered state (step.Remove id) = same_as_itself state (step.Remove id)
+does-unfiltered state (step.Select start end) = same_as_itself state (step.Select start end)
+does-unfiltered state step.Deselect = same_as_itself state step.Deselect
+does-unfiltered state step.Drop = same_as_itself state step.Drop
+does-unfiltered state (step.Mark start end) = same_as_itself state (step.Mark start end)

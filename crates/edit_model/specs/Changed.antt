@@ -1,5 +1,5 @@
 -- The state after an edit, and what the edit changed.
-use Rattle.std.specs.Prelude.{ℕ, ◌&&◌, ◌==◌, Bool, not, List, [], ◌∷◌, map, filter, length, if◌then◌else◌}
+use Rattle.std.specs.Prelude.{ℕ, ◌++◌, ◌&&◌, ◌==◌, Bool, not, List, [], ◌∷◌, map, filter, length, if◌then◌else◌}
 use Rattle.edit_base.specs.declared.verdicts.Verdict.{Verdict}
 use Rattle.edit_base.specs.declared.verdicts.Verdict.TheVariants.{Done, NoChange, Ignored, Absent, Refused}
 use Rattle.edit_model.specs.declared.steps.Step.{Step}
@@ -7,6 +7,7 @@ use Rattle.edit_model.specs.declared.steps.Step.TheVariants as step
 use Rattle.edit_model.specs.State.{Span, State, place}
 use Rattle.edit_model.specs.Replaced.{replaced, moved_span, emptied_spans, kept_spans, came_spans}
 use Rattle.edit_model.specs.Attached.{is_attached, with_span, without_span, spans_of}
+use Rattle.edit_model.specs.Selection.{selection_start, selection_end, is_of_selection, has_selection, with_ends, region_span, is_dropped}
 use Rattle.edit_model.specs.Verdicts.{judged}
 
 -- ---- what an edit changed
@@ -58,6 +59,13 @@ set_effect state span =
     then spans_effect [] (shifts_by (λ other. span) (spans_of span.id state.spans)) []
     else spans_effect [] [] (span ∷ [])
 
+-- the ends of a selection that differ are moved rows, and those of a new one are added, the start first
+abbrev pub select_effect : State → ℕ → ℕ → Effect
+select_effect state start end =
+    if has_selection state.spans
+    then spans_effect [] (filter has_moved (shifts_by (with_ends start end) state.spans)) []
+    else spans_effect [] [] (selection_start start ∷ selection_end end ∷ [])
+
 -- what an edit changes where its verdict is done
 unfoldable pub change_of : State → Step → Effect
 change_of state (step.Replace start end incoming) =
@@ -65,8 +73,24 @@ change_of state (step.Replace start end incoming) =
 change_of state (step.Set id start end flags what) =
     set_effect state (record { id = id; start = place start; end = place end; flags = flags; what = what })
 change_of state (step.Remove id) = spans_effect (spans_of id state.spans) [] []
+change_of state (step.Select start end) = select_effect state (place start) (place end)
+change_of state step.Deselect = spans_effect (filter is_of_selection state.spans) [] []
+change_of state step.Drop = spans_effect (filter is_dropped state.spans) [] []
+change_of state (step.Mark start end) = spans_effect [] [] (region_span start end ∷ [])
 
 -- ---- the state after an edit
+
+-- the selection's ends go to their new places, or come behind all others, the start first
+abbrev pub selected_spans : ℕ → ℕ → List Span → List Span
+selected_spans start end spans =
+    if has_selection spans then map (with_ends start end) spans else spans ++ selection_start start ∷ selection_end end ∷ []
+
+-- without the selection, and without the composing text
+abbrev pub deselected_spans : List Span → List Span
+deselected_spans spans = filter (λ span. not (is_of_selection span)) spans
+
+abbrev pub dropped_spans : List Span → List Span
+dropped_spans spans = filter (λ span. not (is_dropped span)) spans
 
 -- the state that an edit makes where its verdict is done
 unfoldable pub stepped : State → Step → State
@@ -76,6 +100,10 @@ stepped state (step.Set id start end flags what) = record {
   spans = with_span (record { id = id; start = place start; end = place end; flags = flags; what = what }) state.spans;
 }
 stepped state (step.Remove id) = record { units = state.units; spans = without_span id state.spans }
+stepped state (step.Select start end) = record { units = state.units; spans = selected_spans (place start) (place end) state.spans }
+stepped state step.Deselect = record { units = state.units; spans = deselected_spans state.spans }
+stepped state step.Drop = record { units = state.units; spans = dropped_spans state.spans }
+stepped state (step.Mark start end) = record { units = state.units; spans = state.spans ++ region_span start end ∷ [] }
 
 -- one value for an edit that was done, and another for one that changed nothing
 abbrev pub on_done : {X : Type 0} → Verdict → X → X → X

@@ -1,5 +1,5 @@
 -- Where the end x of a span goes when the units [s, e) of a text become n units.
-use Rattle.std.specs.Prelude.{ℕ, ◌+◌, ◌-◌, ◌&&◌, ◌==◌, Bool, List, length, nat_lt, nat_le, if◌then◌else◌}
+use Rattle.std.specs.Prelude.{ℕ, ◌+◌, ◌-◌, ◌*◌, ◌/◌, ◌&&◌, ◌==◌, Bool, List, length, nat_lt, nat_le, if◌then◌else◌}
 use Rattle.edit_model.specs.declared.kinds.EndKind.{EndKind}
 use Rattle.edit_model.specs.declared.kinds.EndKind.TheVariants.{Mark, Point, Paragraph}
 use Rattle.edit_model.specs.Boundaries.{next_boundary}
@@ -49,6 +49,14 @@ end_of kind x s e n units =
 abbrev pub is_pulled : ℕ → ℕ → ℕ → Bool
 is_pulled x s e = nat_lt s x && nat_le x e
 
--- where an end of the span with this id goes: by its kind alone
+-- an end of the selection inside the range, where units come: s < x < e, n > 0
+abbrev pub is_scaled : ℕ → ℕ → ℕ → ℕ → ℕ → Bool
+is_scaled id x s e n = nat_lt id 2 && nat_lt s x && nat_lt x e && nat_lt 0 n
+
+-- as far into the units that come as it was into those that go, in proportion, rounded down
+abbrev pub scaled : ℕ → ℕ → ℕ → ℕ → ℕ
+scaled x s e n = s + (x - s) * n / (e - s)
+
+-- where an end of the span with this id goes: by its kind, but for the ends of the selection inside the range
 abbrev pub end_of_span : ℕ → EndKind → ℕ → ℕ → ℕ → ℕ → List ℕ → ℕ
-end_of_span id kind x s e n units = end_of kind x s e n units
+end_of_span id kind x s e n units = if is_scaled id x s e n then scaled x s e n else end_of kind x s e n units

@@ -36,13 +36,25 @@ unfoldable pub listeners : State → Step → List ℕ
 listeners state (step.Replace start end incoming) = seats_of (over (place start) (place end) Watches state.spans)
 listeners state (step.Set id start end flags what) = []
 listeners state (step.Remove id) = []
+listeners state (step.Select start end) = []
+listeners state step.Deselect = []
+listeners state step.Drop = []
+listeners state (step.Mark start end) = []
+
+-- an edit of spans alone tells nobody of its text
+abbrev pub no_text_event : ℕ → TextEvent
+no_text_event depth = record { depth = depth; start = 0; before = 0; after = 0 }
 
 -- what they are told of it, its text being filtered already
 unfoldable pub text_event : ℕ → Step → TextEvent
 text_event depth (step.Replace start end incoming) =
     record { depth = depth; start = place start; before = place end - place start; after = length incoming.units }
-text_event depth (step.Set id start end flags what) = record { depth = depth; start = 0; before = 0; after = 0 }
-text_event depth (step.Remove id) = record { depth = depth; start = 0; before = 0; after = 0 }
+text_event depth (step.Set id start end flags what) = no_text_event depth
+text_event depth (step.Remove id) = no_text_event depth
+text_event depth (step.Select start end) = no_text_event depth
+text_event depth step.Deselect = no_text_event depth
+text_event depth step.Drop = no_text_event depth
+text_event depth (step.Mark start end) = no_text_event depth
 
 -- ---- spans
 

@@ -42,6 +42,17 @@ ReadsSpans =
     ≡ Ok (command.Replace (pos 0) (pos 0) (incoming_of (codes "hi") (tagged 7 0 5 17 ∷ []))))
     × (read_command (codes "{\"op\":\"replace\",\"start\":0,\"end\":0,\"text\":\"hi\",\"spans\":[\"7 1 0 17 tag 1\"]}") ≡ Err fault.Text)
 
+-- a connection's text and its cursor; a count has no sign and stays below 2^31; an operation without fields has no other member
+abbrev pub ReadsConnections : Type 0
+ReadsConnections =
+    (read_command (codes "{\"op\":\"compose\",\"text\":\"hi\",\"cursor\":-1}") ≡ Ok (command.Compose (incoming_of (codes "hi") []) (negsuc 0)))
+    × (read_command (codes "{\"op\":\"commit\",\"cursor\":1,\"text\":\"\"}") ≡ Ok (command.Commit (incoming_of [] []) (pos 1)))
+    × (read_command (codes "{\"op\":\"delete_points\",\"before\":2147483647,\"after\":0}") ≡ Ok (command.DeletePoints 2147483647 0))
+    × (read_command (codes "{\"op\":\"delete_around\",\"before\":-1,\"after\":0}") ≡ Err fault.Number)
+    × (read_command (codes "{\"op\":\"text_before\",\"count\":2147483648}") ≡ Err fault.Number)
+    × (read_command (codes "{\"op\":\"end\"}") ≡ Ok command.End)
+    × (read_command (codes "{\"op\":\"finish\",\"x\":1}") ≡ Err fault.Field)
+
 -- a pair that doesn't fit whole is left out; each filter sees what the one before it left; places go to as many units as
 -- were kept before them, and those behind the text to its end
 abbrev pub FiltersTexts : Type 0

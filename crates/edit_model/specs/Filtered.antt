@@ -93,3 +93,7 @@ filtered_step filters state (step.Replace start end incoming) =
     step.Replace start end (if lies_within state start end then filtered filters incoming (length state.units) (place start) (place end) else incoming)
 filtered_step filters state (step.Set id start end flags what) = step.Set id start end flags what
 filtered_step filters state (step.Remove id) = step.Remove id
+filtered_step filters state (step.Select start end) = step.Select start end
+filtered_step filters state step.Deselect = step.Deselect
+filtered_step filters state step.Drop = step.Drop
+filtered_step filters state (step.Mark start end) = step.Mark start end

@@ -59,6 +59,10 @@ is_paragraph PointMark = false
 is_paragraph PointPoint = false
 is_paragraph Paragraph = true
 
+-- the span is part of a composing text
+abbrev pub is_composing : ℕ → Bool
+is_composing word = word / 256 % 2 == 1
+
 -- bits 16 to 23
 abbrev pub priority_of : ℕ → ℕ
 priority_of word = word / 65536 % 256

@@ -18,6 +18,7 @@ use Rattle.edit_model.specs.EndTable.{end_of}
 use Rattle.edit_model.specs.Replaced.{spliced, spliced_length}
 use Rattle.edit_model.specs.WellFormed.{IsWellFormed, IsSeated}
 use Rattle.edit_model.specs.Verdicts.{judged}
+use Rattle.edit_model.specs.Selection.{has_region}
 use Rattle.edit_model.specs.Over.{is_watch}
 use Rattle.edit_model.specs.Changed.{stepped, change_of, state_after}
 use Rattle.edit_model.specs.Log.{logged}
@@ -33,15 +34,20 @@ use Rattle.edit_model.specs.Reading.{read_command, IsFitting}
 abbrev pub OthersChangeNothing : Type 0
 OthersChangeNothing = (state : State) (slots : ℕ) (asked : Step) → judged state slots asked ≢ Done → state_after state slots asked ≡ state
 
--- the spans that an edit brings have their ends in order
-abbrev pub BringsOrdered : Step → Type 0
-BringsOrdered (step.Replace start end incoming) = All IsOrdered incoming.spans
-BringsOrdered (step.Set id start end flags what) = Unit {0}
-BringsOrdered (step.Remove id) = Unit {0}
+-- what an edit brings has its ends in order, and a composing region is marked where none is
+abbrev pub BringsOrdered : State → Step → Type 0
+BringsOrdered state (step.Replace start end incoming) = All IsOrdered incoming.spans
+BringsOrdered state (step.Set id start end flags what) = Unit {0}
+BringsOrdered state (step.Remove id) = Unit {0}
+BringsOrdered state (step.Select start end) = Unit {0}
+BringsOrdered state step.Deselect = Unit {0}
+BringsOrdered state step.Drop = Unit {0}
+BringsOrdered state (step.Mark start end) = (start ≤ end) × (has_region state.spans ≡ false)
 
 -- from a well formed state every edit leads to a well formed state
 abbrev pub KeepsWellFormed : Type 0
-KeepsWellFormed = (state : State) (slots : ℕ) (asked : Step) → BringsOrdered asked → IsWellFormed state → IsWellFormed (state_after state slots asked)
+KeepsWellFormed = (state : State) (slots : ℕ) (asked : Step) → BringsOrdered state asked → IsWellFormed state
+    → IsWellFormed (state_after state slots asked)
 
 -- and each watcher keeps a slot
 abbrev pub KeepsSeats : Type 0

@@ -7,6 +7,7 @@ pub mod Attached
 pub mod Brought
 pub mod Replaced
 pub mod WellFormed
+pub mod Selection
 pub mod Over
 pub mod Verdicts
 pub mod Changed
@@ -19,6 +20,8 @@ pub mod MindExamples
 pub mod Log
 pub mod Fitting
 pub mod Events
+pub mod Items
+pub mod Report
 pub mod Machine
 pub mod Outcome
 pub mod MachineLaws
@@ -33,5 +36,7 @@ pub mod Shelves
 pub mod ShelfLaws
 pub mod Output
 pub mod Laws
+pub mod SelectionLaws
 pub mod Examples
 pub mod EventExamples
+pub mod SessionExamples

@@ -1,5 +1,5 @@
 -- What is logged of an edit.
-use Rattle.std.specs.Prelude.{ℕ, length}
+use Rattle.std.specs.Prelude.{ℕ, pos, length}
 use Rattle.edit_base.specs.declared.verdicts.Verdict.{Verdict}
 use Rattle.edit_base.specs.declared.verdicts.Verdict.TheVariants.{Done, NoChange, Ignored, Absent, Refused}
 use Rattle.edit_base.specs.declared.verdicts.Refusal.{Refusal}
@@ -10,19 +10,27 @@ use Rattle.edit_model.specs.declared.entries.Logged.{Logged}
 use Rattle.edit_model.specs.declared.steps.Step.{Step}
 use Rattle.edit_model.specs.declared.steps.Step.TheVariants as step
 use Rattle.edit_model.specs.State.{State}
-use Rattle.edit_model.specs.Verdicts.{length_after, span_count_then, span_count_after_set}
+use Rattle.edit_model.specs.Verdicts.{length_after, span_count_then, span_count_after_set, span_count_after_select, span_count_after_mark}
 
 -- the length that would stand after an edit
 abbrev pub length_of : State → Step → ℕ
 length_of state (step.Replace start end incoming) = length_after state start end incoming
 length_of state (step.Set id start end flags what) = length state.units
 length_of state (step.Remove id) = length state.units
+length_of state (step.Select start end) = length state.units
+length_of state step.Deselect = length state.units
+length_of state step.Drop = length state.units
+length_of state (step.Mark start end) = length state.units
 
 -- the number of spans that would stand after an edit
 abbrev pub span_count_of : State → Step → ℕ
 span_count_of state (step.Replace start end incoming) = span_count_then state start end incoming
 span_count_of state (step.Set id start end flags what) = span_count_after_set state id
 span_count_of state (step.Remove id) = length state.spans
+span_count_of state (step.Select start end) = span_count_after_select state
+span_count_of state step.Deselect = length state.spans
+span_count_of state step.Drop = length state.spans
+span_count_of state (step.Mark start end) = span_count_after_mark state
 
 -- the number that is printed behind a refusal's name, and 0 where none is
 abbrev pub refusal_number : State → Step → Refusal → ℕ
@@ -57,6 +65,10 @@ abbrev pub entry_of : ℕ → Step → Logged → LogEntry
 entry_of depth (step.Replace start end incoming) found = entry.Replace depth start end (length incoming.units) found
 entry_of depth (step.Set id start end flags what) found = entry.Set depth id start end flags found
 entry_of depth (step.Remove id) found = entry.Remove depth id found
+entry_of depth (step.Select start end) found = entry.Select depth start end found
+entry_of depth step.Deselect found = entry.Deselect depth found
+entry_of depth step.Drop found = entry.Drop depth found
+entry_of depth (step.Mark start end) found = entry.Mark depth (pos start) (pos end) found
 
 -- a number for a refusal, and 0 for any other verdict
 abbrev pub on_refusal : Verdict → ℕ → ℕ

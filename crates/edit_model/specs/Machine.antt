@@ -1,6 +1,6 @@
 -- The agenda machine: it takes one task after another from an agenda. One step is one edit's verdict, one edit's change, or
 -- one callback.
-use Rattle.std.specs.Prelude.{ℕ, zero, suc, ◌≡◌, ◌+◌, ◌++◌, ◌&&◌, ◌||◌, Bool, false, List, [], ◌∷◌, length, map, nat_lt, nat_le, slice_index, slice_index_or, slice_set, if◌then◌else◌}
+use Rattle.std.specs.Prelude.{ℕ, ℤ, pos, zero, suc, min, max, ◌≡◌, ◌+◌, ◌++◌, ◌&&◌, ◌||◌, Bool, false, List, [], ◌∷◌, length, map, nat_lt, nat_le, slice_index, slice_index_or, slice_set, if◌then◌else◌}
 use Rattle.edit_base.specs.declared.bounds.TheConstants.Limits.{NESTED_EDITS}
 use Rattle.edit_base.specs.declared.edits.Edit.{Edit}
 use Rattle.edit_base.specs.declared.edits.Edit.TheVariants as edit
@@ -17,7 +17,7 @@ use Rattle.edit_model.specs.declared.items.Item.{Item}
 use Rattle.edit_model.specs.declared.items.Item.TheVariants as item
 use Rattle.edit_model.specs.declared.steps.Step.{Step}
 use Rattle.edit_model.specs.declared.steps.Step.TheVariants as ask
-use Rattle.edit_model.specs.State.{State}
+use Rattle.edit_model.specs.State.{State, place}
 use Rattle.edit_model.specs.Verdicts.{judged}
 use Rattle.edit_model.specs.Filtered.{filtered_step}
 use Rattle.edit_model.specs.Changed.{Effect, change_of, stepped, on_done}
@@ -71,18 +71,26 @@ rest_of (first ∷ others) depth = do_rest first others depth ∷ []
 abbrev pub alone : List ℕ → Incoming
 alone units = record { units = units; spans = []; composing = false }
 
--- what an edit asks the text for. Until texts have selections, a select is taken as the removal of the selection's start,
--- which is refused
+-- what an edit asks the text for
 unfoldable pub asked_by : Edit → Step
 asked_by (edit.Replace start end text) = ask.Replace start end (alone text.items)
 asked_by (edit.SetSpan id start end flags what) = ask.Set id start end flags what
 asked_by (edit.RemoveSpan id) = ask.Remove id
-asked_by (edit.Select start end) = ask.Remove 0
+asked_by (edit.Select start end) = ask.Select start end
+
+-- a place of a connection's item at its turn: in the text
+abbrev pub clamped : State → ℤ → ℕ
+clamped state at = min (place at) (length state.units)
 
 -- what an item asks the text for at its turn
 unfoldable pub resolved : State → Item → Step
 resolved state (item.Edit it) = asked_by it
 resolved state (item.Replace start end incoming) = ask.Replace start end incoming
+resolved state (item.Write start end incoming) = ask.Replace (pos (clamped state start)) (pos (clamped state end)) incoming
+resolved state (item.Cursor at) = ask.Select (pos (clamped state at)) (pos (clamped state at))
+resolved state (item.Mark start end) = ask.Mark (min (clamped state start) (clamped state end)) (max (clamped state start) (clamped state end))
+resolved state item.Drop = ask.Drop
+resolved state item.Deselect = ask.Deselect
 
 -- it is nested, and too deep
 abbrev pub is_too_deep : ℕ → ℕ → Bool

@@ -1,11 +1,11 @@
 -- What the agenda machine means, as laws.
-use Rattle.std.specs.Prelude.{ℕ, ◌≡◌, ◌≢◌, ◌++◌, ◌⊎◌, List, [], ◌∷◌}
+use Rattle.std.specs.Prelude.{ℕ, ◌≡◌, ◌≢◌, ◌++◌, ◌⊎◌, List, [], ◌∷◌, map}
 use Rattle.edit_base.specs.declared.edits.Edit.{Edit}
 use Rattle.edit_base.specs.declared.verdicts.Verdict.TheVariants.{Done}
 use Rattle.edit_model.specs.declared.entries.LogEntry.{LogEntry}
 use Rattle.edit_model.specs.declared.items.Item.{Item}
-use Rattle.edit_model.specs.Machine.{Setup, Scene, Task, at, do_rest, rest_of, asked_by, resolved, verdict_at, edit_entry, step, Ends}
-use Rattle.edit_model.specs.Outcome.{outcome}
+use Rattle.edit_model.specs.Machine.{Setup, Scene, Task, at, do_rest, rest_of, asked_by, resolved, verdict_at, edit_entry, step, run_item, Reaches, Ends}
+use Rattle.edit_model.specs.Outcome.{outcome, outcomes}
 
 -- the run of an item ends, from every scene
 abbrev pub EveryRunEnds : Type 0
@@ -14,6 +14,10 @@ EveryRunEnds = (r : Setup) (it : Item) (old : Scene) → (new : Scene) × Ends r
 -- and comes to its outcome
 abbrev pub ComesToItsOutcome : Type 0
 ComesToItsOutcome = (r : Setup) (it : Item) (old : Scene) → Ends r it old (outcome r it old)
+
+-- so do the items of a command, one behind the other
+abbrev pub ComeToTheirOutcomes : Type 0
+ComeToTheirOutcomes = (r : Setup) (items : List Item) (old : Scene) → Reaches r (at old (map run_item items)) (at (outcomes r items old) [])
 
 -- in one way
 abbrev pub EndsOnce : Type 0

@@ -2,6 +2,7 @@
 use Rattle.std.specs.Prelude.{ℕ, ℤ, pos, negsuc, List, [], ◌∷◌, Bool, true, false, codes}
 use Rattle.edit_model.specs.declared.operations.Op.{Op}
 use Rattle.edit_model.specs.declared.operations.Op.TheVariants.{Replace, SetSpan, RemoveSpan, SpansOver, NextEdge}
+use Rattle.edit_model.specs.declared.operations.Op.TheVariants.{Select, Deselect, Compose, Commit, Finish, Region, DeleteAround, DeletePoints, SetSelection, TextBefore, TextAfter, Selected, Begin, End}
 use Rattle.edit_model.specs.declared.commands.Command.{Command}
 use Rattle.edit_model.specs.declared.commands.Command.TheVariants as command
 use Rattle.edit_model.specs.Words.{greatest_id}
@@ -24,6 +25,10 @@ greatest_place = pos 2147483647
 -- a place: 32 bits with sign
 abbrev pub place : Form
 place = number least_place greatest_place
+
+-- a count: as a place, without sign
+abbrev pub count : Form
+count = number (pos 0) greatest_place
 
 -- an id, and a flags word: 32 bits without sign
 abbrev pub id : Form
@@ -72,10 +77,27 @@ operation SetSpan =
 operation RemoveSpan = row (codes "remove_span") (field (codes "id") id ∷ [])
 operation SpansOver = row (codes "spans_over") (field (codes "start") place ∷ field (codes "end") place ∷ [])
 operation NextEdge = row (codes "next_edge") (field (codes "start") place ∷ field (codes "limit") place ∷ [])
+operation Select = row (codes "select") (field (codes "start") place ∷ field (codes "end") place ∷ [])
+operation Deselect = row (codes "deselect") []
+operation Compose = row (codes "compose") (field (codes "text") text ∷ field (codes "cursor") place ∷ field (codes "spans") spans ∷ [])
+operation Commit = row (codes "commit") (field (codes "text") text ∷ field (codes "cursor") place ∷ field (codes "spans") spans ∷ [])
+operation Finish = row (codes "finish") []
+operation Region = row (codes "region") (field (codes "start") place ∷ field (codes "end") place ∷ [])
+operation DeleteAround = row (codes "delete_around") (field (codes "before") count ∷ field (codes "after") count ∷ [])
+operation DeletePoints = row (codes "delete_points") (field (codes "before") count ∷ field (codes "after") count ∷ [])
+operation SetSelection = row (codes "set_selection") (field (codes "start") place ∷ field (codes "end") place ∷ [])
+operation TextBefore = row (codes "text_before") (field (codes "count") count ∷ [])
+operation TextAfter = row (codes "text_after") (field (codes "count") count ∷ [])
+operation Selected = row (codes "selected") []
+operation Begin = row (codes "begin") []
+operation End = row (codes "end") []
 
 -- every operation, in the order of the table
 abbrev pub ops : List Op
-ops = Replace ∷ SetSpan ∷ RemoveSpan ∷ SpansOver ∷ NextEdge ∷ []
+ops =
+    Replace ∷ SetSpan ∷ RemoveSpan ∷ SpansOver ∷ NextEdge
+    ∷ Select ∷ Deselect ∷ Compose ∷ Commit ∷ Finish ∷ Region ∷ DeleteAround ∷ DeletePoints ∷ SetSelection
+    ∷ TextBefore ∷ TextAfter ∷ Selected ∷ Begin ∷ End ∷ []
 
 -- the operation of a command
 abbrev pub op_of : Command → Op
@@ -84,3 +106,17 @@ op_of (command.SetSpan span start end flags it) = SetSpan
 op_of (command.RemoveSpan span) = RemoveSpan
 op_of (command.SpansOver start end) = SpansOver
 op_of (command.NextEdge start limit) = NextEdge
+op_of (command.Select start end) = Select
+op_of command.Deselect = Deselect
+op_of (command.Compose incoming cursor) = Compose
+op_of (command.Commit incoming cursor) = Commit
+op_of command.Finish = Finish
+op_of (command.Region start end) = Region
+op_of (command.DeleteAround before after) = DeleteAround
+op_of (command.DeletePoints before after) = DeletePoints
+op_of (command.SetSelection start end) = SetSelection
+op_of (command.TextBefore number_of_units) = TextBefore
+op_of (command.TextAfter number_of_units) = TextAfter
+op_of command.Selected = Selected
+op_of command.Begin = Begin
+op_of command.End = End

@@ -73,3 +73,7 @@ answered_at r (suc more) depth edits s = behind_answer r depth (answered_at r mo
 unfoldable pub outcome : Setup → Item → Scene → Scene
 outcome r it s =
     behind_edit r 0 (resolved s.state it) (answered_at r r.depth 1) s (edit_logged r 0 (resolved s.state it) s)
+
+-- the scene behind a command's items, one run behind the other: the nested edits of all of them are counted together
+abbrev pub outcomes : Setup → List Item → Scene → Scene
+outcomes r items s = told_each (outcome r) items s

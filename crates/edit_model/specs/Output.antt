@@ -1,5 +1,5 @@
 -- What a trace gives: the bytes of each command, the end block, how the run ends, and what the watchers keep then.
-use Rattle.std.specs.Prelude.{ℕ, ◌+◌, ◌++◌, List, [], ◌∷◌, length, take, nat_lt, if◌then◌else◌, Option, Some, None, Result, Ok, Err}
+use Rattle.std.specs.Prelude.{ℕ, ◌+◌, ◌++◌, List, [], ◌∷◌, length, take, nat_lt, if◌then◌else◌, Result, Ok, Err}
 use Rattle.std.specs.List.{concat, flat_map}
 use Rattle.edit_base.specs.declared.bounds.TheConstants.Limits.{TRACE_BYTES, LINE_BYTES}
 use Rattle.edit_model.specs.declared.faults.TraceFault.{TraceFault}
@@ -8,12 +8,14 @@ use Rattle.edit_model.specs.declared.faults.SettingsFault.{SettingsFault}
 use Rattle.edit_model.specs.declared.faults.SettingsFault.TheVariants as wrong
 use Rattle.edit_model.specs.declared.commands.Command.{Command}
 use Rattle.edit_model.specs.declared.commands.Command.TheVariants as commands
-use Rattle.edit_model.specs.declared.items.Item.{Item}
-use Rattle.edit_model.specs.declared.items.Item.TheVariants as item
+use Rattle.edit_model.specs.declared.items.Planned.{Planned}
+use Rattle.edit_model.specs.declared.items.Planned.TheVariants.{Items}
+use Rattle.edit_model.specs.declared.items.Planned.TheVariants as planned
+use Rattle.edit_model.specs.declared.reports.Report.{Report}
 use Rattle.edit_model.specs.declared.replies.Reply.TheVariants as reply
-use Rattle.edit_base.specs.declared.edits.Edit.TheVariants as edit
 use Rattle.edit_base.specs.declared.rows.Pick.TheVariants.{All}
 use Rattle.edit_base.specs.declared.verdicts.Verdict.{Verdict}
+use Rattle.edit_base.specs.declared.verdicts.Verdict.TheVariants.{Absent, Ignored}
 use Rattle.edit_model.specs.State.{State, empty_state, place}
 use Rattle.edit_model.specs.Over.{over, next_edge}
 use Rattle.edit_model.specs.Verdicts.{judged_range}
@@ -21,8 +23,11 @@ use Rattle.edit_model.specs.Changed.{on_done}
 use Rattle.edit_model.specs.Log.{range_logged}
 use Rattle.edit_model.specs.Minds.{Mind}
 use Rattle.edit_model.specs.Machine.{Setup, Scene}
-use Rattle.edit_model.specs.Outcome.{outcome}
-use Rattle.edit_model.specs.Printed.{header_line, entry_line, reply_text, reply_line, found_lines, edge_line, end_block}
+use Rattle.edit_model.specs.Outcome.{outcomes}
+use Rattle.edit_model.specs.Selection.{text_before, text_after, selected}
+use Rattle.edit_model.specs.Items.{items_of, items_in}
+use Rattle.edit_model.specs.Report.{judged_begin, judged_end, nesting_behind, report, last_report, no_report}
+use Rattle.edit_model.specs.Printed.{header_line, entry_line, reply_text, reply_line, text_line, selected_line, report_line, found_lines, edge_line, end_block}
 use Rattle.edit_model.specs.Operations.{operation, op_of}
 use Rattle.edit_model.specs.Reading.{read_command}
 use Rattle.edit_model.specs.Settings.{Settings}
@@ -55,59 +60,78 @@ prepared (Err it) minds = record { minds = minds; found = Err it }
 abbrev pub name_of : Command → List ℕ
 name_of asked = (operation (op_of asked)).name
 
--- the item that a command asks for, if it asks for one
-abbrev pub item_of : Command → Option Item
-item_of (commands.Replace start end incoming) = Some (item.Replace start end incoming)
-item_of (commands.SetSpan id start end flags what) = Some (item.Edit (edit.SetSpan id start end flags what))
-item_of (commands.RemoveSpan id) = Some (item.Edit (edit.RemoveSpan id))
-item_of (commands.SpansOver start end) = None
-item_of (commands.NextEdge start limit) = None
-
--- what stands between two commands: the text with its spans, and the minds of the shelf
+-- what stands between two commands: the text with its spans, the minds of the shelf, how many batches are open, and the last
+-- report
 pub record Session : Type 0 where
   pub state : State
   pub minds : List Mind
+  pub nesting : ℕ
+  pub last : Report
 
-abbrev pub standing : State → List Mind → Session
-standing state minds = record { state = state; minds = minds }
+abbrev pub standing : State → List Mind → ℕ → Report → Session
+standing state minds nesting last = record { state = state; minds = minds; nesting = nesting; last = last }
 
 -- before the first command
 abbrev pub first_session : List Mind → Session
-first_session minds = standing empty_state minds
+first_session minds = standing empty_state minds 0 no_report
 
 -- where a command starts: nothing is logged, and no nested edit has begun
 abbrev pub scene_of : Session → Scene
 scene_of session = record { state = session.state; minds = session.minds; log = []; begun = 0; effects = [] }
 
-abbrev pub session_of : Scene → Session
-session_of scene = standing scene.state scene.minds
+-- the scene behind the items of a command
+unfoldable pub scene_behind : Setup → Session → Command → Scene
+scene_behind r session asked = outcomes r (items_in (items_of session.state asked)) (scene_of session)
 
--- behind an item, or the same where there is none
-abbrev pub behind_item : Setup → Session → Option Item → Session
-behind_item r session None = session
-behind_item r session (Some it) = session_of (outcome r it (scene_of session))
+-- what stands behind a command that leaves a scene and so many batches open
+abbrev pub session_of : Scene → ℕ → Report → Session
+session_of scene nesting last = standing scene.state scene.minds nesting (last_report scene.state nesting last)
 
 -- what stands behind a command
 unfoldable pub session_behind : Setup → Session → Command → Session
-session_behind r session asked = behind_item r session (item_of asked)
+session_behind r session asked = session_of (scene_behind r session asked) (nesting_behind session.nesting asked) session.last
 
--- a line for each entry of what the run of an item logs
-abbrev pub item_lines : Setup → Session → Item → List ℕ
-item_lines r session it = flat_map entry_line (outcome r it (scene_of session)).log
+-- a line for each entry of what the run of a command's items logs
+abbrev pub log_lines : Scene → List ℕ
+log_lines scene = flat_map entry_line scene.log
 
 -- a query's answer, or the refusal of its range
 abbrev pub answer_lines : State → Verdict → List ℕ → List ℕ
 answer_lines state verdict answer = on_done verdict answer (reply_line (range_logged state verdict))
 
--- what a command prints behind its header
+-- a verdict in reply, without a number behind it
+abbrev pub verdict_line : Verdict → List ℕ
+verdict_line verdict = reply_line (record { verdict = verdict; number = 0 })
+
+-- the reply of a connection's command that has no items
+abbrev pub planned_line : Planned → List ℕ
+planned_line (Items items) = []
+planned_line planned.Absent = verdict_line Absent
+planned_line planned.Ignored = verdict_line Ignored
+
+-- what a command is answered, as the text stands when it starts; an edit is answered by what is logged of it
+unfoldable pub reply_lines : State → ℕ → Command → List ℕ
+reply_lines state nesting (commands.SpansOver start end) =
+    answer_lines state (judged_range state start end) (found_lines (over (place start) (place end) All state.spans))
+reply_lines state nesting (commands.NextEdge start limit) =
+    answer_lines state (judged_range state start limit) (edge_line (next_edge (place start) (place limit) state.spans))
+reply_lines state nesting (commands.TextBefore count) = text_line (text_before state count)
+reply_lines state nesting (commands.TextAfter count) = text_line (text_after state count)
+reply_lines state nesting commands.Selected = selected_line (selected state)
+reply_lines state nesting commands.Begin = verdict_line (judged_begin nesting)
+reply_lines state nesting commands.End = verdict_line (judged_end nesting)
+reply_lines state nesting asked = planned_line (items_of state asked)
+
+-- the report behind a command that leaves a state and so many batches open
+abbrev pub report_lines : State → ℕ → Report → List ℕ
+report_lines state nesting last = report_line (report state nesting last)
+
+-- what a command prints behind its header: what was logged, a reply, and a report
 unfoldable pub lines_of : Setup → Session → Command → List ℕ
-lines_of r session (commands.Replace start end incoming) = item_lines r session (item.Replace start end incoming)
-lines_of r session (commands.SetSpan id start end flags what) = item_lines r session (item.Edit (edit.SetSpan id start end flags what))
-lines_of r session (commands.RemoveSpan id) = item_lines r session (item.Edit (edit.RemoveSpan id))
-lines_of r session (commands.SpansOver start end) =
-    answer_lines session.state (judged_range session.state start end) (found_lines (over (place start) (place end) All session.state.spans))
-lines_of r session (commands.NextEdge start limit) =
-    answer_lines session.state (judged_range session.state start limit) (edge_line (next_edge (place start) (place limit) session.state.spans))
+lines_of r session asked =
+    log_lines (scene_behind r session asked)
+    ++ reply_lines session.state session.nesting asked
+    ++ report_lines (scene_behind r session asked).state (nesting_behind session.nesting asked) session.last
 
 -- the bytes of a command: its header, and what it prints behind it
 abbrev pub command_bytes : Setup → ℕ → Session → Command → List ℕ

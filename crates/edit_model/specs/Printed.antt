@@ -1,5 +1,5 @@
 -- The printed lines. In a line each space belongs to the word behind it.
-use Rattle.std.specs.Prelude.{ℕ, ◌/◌, ◌%◌, ◌+◌, ◌&&◌, ◌==◌, Bool, true, false, not, List, [], ◌∷◌, ◌++◌, length, nat_lt, nat_le, codes, decimal, if◌then◌else◌}
+use Rattle.std.specs.Prelude.{ℕ, ℤ, ◌/◌, ◌%◌, ◌+◌, ◌&&◌, ◌==◌, Bool, true, false, not, List, [], ◌∷◌, ◌++◌, length, nat_lt, nat_le, codes, decimal, if◌then◌else◌, Option, Some, None}
 use Rattle.std.specs.List.{flat_map}
 use Rattle.std.specs.Fmt.{signed_decimal}
 use Rattle.edit_base.specs.declared.verdicts.Verdict.{Verdict}
@@ -17,7 +17,9 @@ use Rattle.edit_model.specs.declared.replies.Reply.{Reply}
 use Rattle.edit_model.specs.declared.replies.Reply.TheVariants as reply
 use Rattle.edit_base.specs.declared.kinds.What.{What}
 use Rattle.edit_base.specs.declared.kinds.What.TheVariants.{Tag, Face, Margin, Float, Watch, SelStart, SelEnd, Composing}
+use Rattle.edit_model.specs.declared.reports.Report.{Report}
 use Rattle.edit_model.specs.State.{Span, State}
+use Rattle.edit_model.specs.Report.{report_of}
 
 -- a word behind a space
 abbrev pub spaced : List ℕ → List ℕ
@@ -139,19 +141,36 @@ entry_line (entry.Set depth id start end flags it) =
     ++ spaced (decimal flags) ++ logged_text it ++ line_end
 entry_line (entry.Remove depth id it) =
     codes "edit" ++ spaced (decimal depth) ++ spaced (codes "remove") ++ spaced (decimal id) ++ logged_text it ++ line_end
+entry_line (entry.Select depth start end it) =
+    codes "edit" ++ spaced (decimal depth) ++ spaced (codes "select") ++ spaced (signed_decimal start) ++ spaced (signed_decimal end)
+    ++ logged_text it ++ line_end
+entry_line (entry.Deselect depth it) = codes "edit" ++ spaced (decimal depth) ++ spaced (codes "deselect") ++ logged_text it ++ line_end
+entry_line (entry.Drop depth it) = codes "edit" ++ spaced (decimal depth) ++ spaced (codes "drop") ++ logged_text it ++ line_end
+entry_line (entry.Mark depth start end it) =
+    codes "edit" ++ spaced (decimal depth) ++ spaced (codes "mark") ++ spaced (signed_decimal start) ++ spaced (signed_decimal end)
+    ++ logged_text it ++ line_end
 entry_line (entry.Before slot event) = event_line (codes "before") slot event
 entry_line (entry.Changed slot event) = event_line (codes "changed") slot event
 entry_line (entry.After slot event) = event_line (codes "after") slot event
 entry_line (entry.Span slot event) = span_event_line slot event
 
--- a verdict, how many spans are found, a place, or how many commands were read
+-- two places, -1 where there is none
+abbrev pub signed_places : ℤ → ℤ → List ℕ
+signed_places start end = spaced (signed_decimal start) ++ spaced (signed_decimal end)
+
+-- a verdict, how many spans are found, a place, no text, a report, a line of the end block, or how many commands were read
 abbrev pub reply_text : Reply → List ℕ
 reply_text (reply.Verdict it) = codes "reply" ++ logged_text it ++ line_end
 reply_text (reply.Found count) = codes "found" ++ spaced (decimal count) ++ line_end
 reply_text (reply.Edge place) = codes "edge" ++ spaced (decimal place) ++ line_end
+reply_text reply.Nothing = codes "none" ++ line_end
+reply_text (reply.Report sel_start sel_end start end) = codes "report" ++ signed_places sel_start sel_end ++ signed_places start end ++ line_end
+reply_text reply.End = codes "end" ++ line_end
+reply_text (reply.Selection start end) = codes "selection" ++ signed_places start end ++ line_end
+reply_text (reply.Region start end) = codes "region" ++ signed_places start end ++ line_end
 reply_text (reply.Checked count) = codes "ok" ++ spaced (decimal count) ++ line_end
 
--- the reply to a query whose range is refused
+-- the reply that is a verdict
 abbrev pub reply_line : Logged → List ℕ
 reply_line it = reply_text (reply.Verdict it)
 
@@ -180,6 +199,21 @@ found_lines spans = reply_text (reply.Found (length spans)) ++ flat_map span_lin
 abbrev pub edge_line : ℕ → List ℕ
 edge_line place = reply_text (reply.Edge place)
 
+-- the selected units, or that there are none
+abbrev pub selected_line : Option (List ℕ) → List ℕ
+selected_line None = reply_text reply.Nothing
+selected_line (Some units) = text_line units
+
+-- a report, where one is made
+abbrev pub report_line : Option Report → List ℕ
+report_line None = []
+report_line (Some it) = reply_text (reply.Report it.sel_start it.sel_end it.start it.end)
+
+-- where the selection and the composing region stand
+abbrev pub standing_lines : Report → List ℕ
+standing_lines it = reply_text (reply.Selection it.sel_start it.sel_end) ++ reply_text (reply.Region it.start it.end)
+
 -- the block behind the last command
 abbrev pub end_block : State → List ℕ
-end_block state = codes "end" ++ line_end ++ text_line state.units ++ flat_map span_line state.spans
+end_block state =
+    reply_text reply.End ++ text_line state.units ++ flat_map span_line state.spans ++ standing_lines (report_of state)

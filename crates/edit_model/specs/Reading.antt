@@ -20,6 +20,7 @@ use Rattle.edit_model.specs.declared.commands.Command.{Command}
 use Rattle.edit_model.specs.declared.commands.Command.TheVariants as command
 use Rattle.edit_model.specs.declared.operations.Op.{Op}
 use Rattle.edit_model.specs.declared.operations.Op.TheVariants.{Replace, SetSpan, RemoveSpan, SpansOver, NextEdge}
+use Rattle.edit_model.specs.declared.operations.Op.TheVariants.{Select, Deselect, Compose, Commit, Finish, Region, DeleteAround, DeletePoints, SetSelection, TextBefore, TextAfter, Selected, Begin, End}
 use Rattle.edit_model.specs.declared.faults.TraceFault.{TraceFault}
 use Rattle.edit_model.specs.declared.faults.TraceFault.TheVariants as fault
 use Rattle.edit_model.specs.Operations.{Form, number, text, what, spans, least_place, greatest_place, is_number, is_required}
@@ -89,6 +90,9 @@ number_found least greatest name members = option_and_then (number_of least grea
 
 abbrev pub place_found : List ℕ → Members → Option ℤ
 place_found name members = number_found least_place greatest_place name members
+
+abbrev pub count_found : List ℕ → Members → Option ℤ
+count_found name members = number_found (pos 0) greatest_place name members
 
 -- an id or a flags word
 abbrev pub word_found : List ℕ → Members → Option ℤ
@@ -165,6 +169,9 @@ place_in name members = unwrap_or (place_found name members) (pos 0)
 abbrev pub word_in : List ℕ → Members → ℕ
 word_in name members = natural (unwrap_or (word_found name members) (pos 0))
 
+abbrev pub count_in : List ℕ → Members → ℕ
+count_in name members = natural (unwrap_or (count_found name members) (pos 0))
+
 abbrev pub text_in : List ℕ → Members → List ℕ
 text_in name members = unwrap_or (text_found name members) []
 
@@ -178,16 +185,32 @@ spans_in name members = unwrap_or (spans_found name members) []
 abbrev pub incoming_of : List ℕ → List NewSpan → Incoming
 incoming_of units brought = record { units = units; spans = brought; composing = false }
 
+-- the text of a command, with the spans over it
+abbrev pub incoming_in : Members → Incoming
+incoming_in members = incoming_of (text_in (codes "text") members) (spans_in (codes "spans") members)
+
 abbrev pub command_in : Op → Members → Command
-command_in Replace members =
-    command.Replace (place_in (codes "start") members) (place_in (codes "end") members)
-    (incoming_of (text_in (codes "text") members) (spans_in (codes "spans") members))
+command_in Replace members = command.Replace (place_in (codes "start") members) (place_in (codes "end") members) (incoming_in members)
 command_in SetSpan members =
     command.SetSpan (word_in (codes "id") members) (place_in (codes "start") members) (place_in (codes "end") members)
     (word_in (codes "flags") members) (what_in (codes "what") members)
 command_in RemoveSpan members = command.RemoveSpan (word_in (codes "id") members)
 command_in SpansOver members = command.SpansOver (place_in (codes "start") members) (place_in (codes "end") members)
 command_in NextEdge members = command.NextEdge (place_in (codes "start") members) (place_in (codes "limit") members)
+command_in Select members = command.Select (place_in (codes "start") members) (place_in (codes "end") members)
+command_in Deselect _ = command.Deselect
+command_in Compose members = command.Compose (incoming_in members) (place_in (codes "cursor") members)
+command_in Commit members = command.Commit (incoming_in members) (place_in (codes "cursor") members)
+command_in Finish _ = command.Finish
+command_in Region members = command.Region (place_in (codes "start") members) (place_in (codes "end") members)
+command_in DeleteAround members = command.DeleteAround (count_in (codes "before") members) (count_in (codes "after") members)
+command_in DeletePoints members = command.DeletePoints (count_in (codes "before") members) (count_in (codes "after") members)
+command_in SetSelection members = command.SetSelection (place_in (codes "start") members) (place_in (codes "end") members)
+command_in TextBefore members = command.TextBefore (count_in (codes "count") members)
+command_in TextAfter members = command.TextAfter (count_in (codes "count") members)
+command_in Selected _ = command.Selected
+command_in Begin _ = command.Begin
+command_in End _ = command.End
 
 -- ---- lines
 
@@ -214,4 +237,6 @@ read_command bytes = if nat_lt LINE_BYTES (length bytes) then Err fault.LineTooL
 -- a command brings what a replacement may
 abbrev pub IsFitting : Command → Type 0
 IsFitting (command.Replace start end incoming) = IsBrought incoming
+IsFitting (command.Compose incoming cursor) = IsBrought incoming
+IsFitting (command.Commit incoming cursor) = IsBrought incoming
 IsFitting _ = Unit {0}

@@ -17,6 +17,7 @@ use Rattle.edit_model.specs.Replaced.{spliced_length, came_spans, replaced}
 use Rattle.edit_model.specs.Attached.{has_id, is_attached}
 use Rattle.edit_model.specs.WellFormed.{is_kept_what}
 use Rattle.edit_model.specs.Over.{is_watch}
+use Rattle.edit_model.specs.Selection.{has_selection, selection, are_ends, is_dropped}
 use Rattle.edit_model.specs.declared.steps.Step.{Step}
 use Rattle.edit_model.specs.declared.steps.Step.TheVariants as step
 
@@ -97,6 +98,22 @@ span_count_then state start end incoming = length (replaced state (place start) 
 abbrev pub span_count_after_set : State → ℕ → ℕ
 span_count_after_set state id = if is_attached id state.spans then length state.spans else length state.spans + 1
 
+-- the selection stands at these places already
+abbrev pub is_selected : State → ℤ → ℤ → Bool
+is_selected state start end = are_ends (place start) (place end) (selection state.spans)
+
+-- the number of spans that would stand after a select: two more where there is no selection
+abbrev pub span_count_after_select : State → ℕ
+span_count_after_select state = if has_selection state.spans then length state.spans else length state.spans + 2
+
+-- the number of spans that would stand with a composing region
+abbrev pub span_count_after_mark : State → ℕ
+span_count_after_mark state = length state.spans + 1
+
+-- there is neither a composing region nor a span of a composing text
+abbrev pub drops_nothing : State → Bool
+drops_nothing state = not (list_any is_dropped state.spans)
+
 -- ---- tables
 
 abbrev pub replace_lines : State → ℤ → ℤ → Incoming → List (Bool × Verdict)
@@ -131,11 +148,38 @@ remove_lines state id =
     ∷ (not (is_attached id state.spans), Absent)
     ∷ []
 
+-- a select needs no order
+abbrev pub select_lines : State → ℤ → ℤ → List (Bool × Verdict)
+select_lines state start end =
+    (goes_beyond state start end, Refused Beyond)
+    ∷ (goes_below start end, Refused Below)
+    ∷ (is_selected state start end, NoChange)
+    ∷ (nat_lt SPANS (span_count_after_select state), Refused SpansFull)
+    ∷ []
+
+abbrev pub deselect_lines : State → List (Bool × Verdict)
+deselect_lines state = (not (has_selection state.spans), Absent) ∷ []
+
+abbrev pub drop_lines : State → List (Bool × Verdict)
+drop_lines state = (drops_nothing state, NoChange) ∷ []
+
+-- a composing region may not be empty
+abbrev pub mark_lines : State → ℕ → ℕ → List (Bool × Verdict)
+mark_lines state start end =
+    (goes_beyond state (pos start) (pos end), Refused Beyond)
+    ∷ (start == end, Ignored)
+    ∷ (nat_lt SPANS (span_count_after_mark state), Refused SpansFull)
+    ∷ []
+
 -- the verdict of an edit that isn't nested, its incoming text being filtered already, with so many watchers loaded
 unfoldable pub judged : State → ℕ → Step → Verdict
 judged state slots (step.Replace start end incoming) = first_of (replace_lines state start end incoming)
 judged state slots (step.Set id start end flags what) = first_of (set_lines state slots id start end flags what)
 judged state slots (step.Remove id) = first_of (remove_lines state id)
+judged state slots (step.Select start end) = first_of (select_lines state start end)
+judged state slots step.Deselect = first_of (deselect_lines state)
+judged state slots step.Drop = first_of (drop_lines state)
+judged state slots (step.Mark start end) = first_of (mark_lines state start end)
 
 -- ---- queries
 

@@ -37,6 +37,59 @@ pub enum Command {
         start: i32,
         limit: i32,
     },
+    /// `select`: the selection goes to these places.
+    Select {
+        start: i32,
+        end: i32,
+    },
+    /// `deselect`: the selection goes.
+    Deselect,
+    /// `compose`: a connection's text becomes the composing text; `cursor` counts from what it replaces.
+    Compose {
+        incoming: Incoming,
+        cursor: i32,
+    },
+    /// `commit`: a connection's text comes, and nothing is composed any more.
+    Commit {
+        incoming: Incoming,
+        cursor: i32,
+    },
+    /// `finish`: nothing is composed any more.
+    Finish,
+    /// `region`: the units between two places become the composing region.
+    Region {
+        start: i32,
+        end: i32,
+    },
+    /// `delete_around`: so many units before and behind the selection go.
+    DeleteAround {
+        before: u32,
+        after: u32,
+    },
+    /// `delete_points`: so many characters before and behind the selection go.
+    DeletePoints {
+        before: u32,
+        after: u32,
+    },
+    /// `set_selection`: the selection goes to these places, unless one lies outside the text.
+    SetSelection {
+        start: i32,
+        end: i32,
+    },
+    /// `text_before`: the units before the selection.
+    TextBefore {
+        count: u32,
+    },
+    /// `text_after`: the units behind the selection.
+    TextAfter {
+        count: u32,
+    },
+    /// `selected`: the units in the selection.
+    Selected,
+    /// `begin`: a batch is begun, in which no report is made.
+    Begin,
+    /// `end`: the last batch that was begun ends.
+    End,
 }
 
 impl Command {
@@ -50,6 +103,20 @@ impl Command {
             Command::RemoveSpan { .. } => Op::RemoveSpan,
             Command::SpansOver { .. } => Op::SpansOver,
             Command::NextEdge { .. } => Op::NextEdge,
+            Command::Select { .. } => Op::Select,
+            Command::Deselect => Op::Deselect,
+            Command::Compose { .. } => Op::Compose,
+            Command::Commit { .. } => Op::Commit,
+            Command::Finish => Op::Finish,
+            Command::Region { .. } => Op::Region,
+            Command::DeleteAround { .. } => Op::DeleteAround,
+            Command::DeletePoints { .. } => Op::DeletePoints,
+            Command::SetSelection { .. } => Op::SetSelection,
+            Command::TextBefore { .. } => Op::TextBefore,
+            Command::TextAfter { .. } => Op::TextAfter,
+            Command::Selected => Op::Selected,
+            Command::Begin => Op::Begin,
+            Command::End => Op::End,
         }
     }
 }

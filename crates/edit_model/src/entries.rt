@@ -15,7 +15,8 @@ pub struct Logged {
 /// One entry for each edit and for each callback. `depth` is 0 for a command's own edits.
 #[derive(Clone, Copy, Debug, PartialEq, Eq)]
 pub enum LogEntry {
-    /// A replacement with its places as asked; `units` counts the incoming units as given.
+    /// A replacement with its places as asked, or as clamped at its turn where a connection asks; `units` counts the
+    /// incoming units as given.
     Replace {
         depth: u32,
         start: i64,
@@ -36,6 +37,30 @@ pub enum LogEntry {
     Remove {
         depth: u32,
         id: u32,
+        logged: Logged,
+    },
+    /// A select, with its places as asked, or as clamped at its turn where it places a connection's cursor.
+    Select {
+        depth: u32,
+        start: i64,
+        end: i64,
+        logged: Logged,
+    },
+    /// A removal of the selection.
+    Deselect {
+        depth: u32,
+        logged: Logged,
+    },
+    /// A removal of the composing region and of the spans of a composing text.
+    Drop {
+        depth: u32,
+        logged: Logged,
+    },
+    /// A mark of a composing region, with its places as clamped at its turn, the lesser first.
+    Mark {
+        depth: u32,
+        start: i64,
+        end: i64,
         logged: Logged,
     },
     /// The watcher in a slot was told of a replacement before it.

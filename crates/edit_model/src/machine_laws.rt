@@ -1,11 +1,13 @@
 //! What the agenda machine means: each law is the contract of a function that does nothing.
 
-ghost use Rattle.edit_model.specs.MachineLaws.{EveryRunEnds, ComesToItsOutcome, EndsOnce, OthersEndAtOnce, NestedOnlyLog};
+ghost use Rattle.edit_model.specs.MachineLaws.{EveryRunEnds, ComesToItsOutcome, ComeToTheirOutcomes, EndsOnce, OthersEndAtOnce, NestedOnlyLog};
 
-/// The run of an item ends, whatever the watchers answer, and in one way, which is its outcome.
+/// The run of an item ends, whatever the watchers answer, and in one way, which is its outcome. The items of a command
+/// come to theirs one behind the other.
 pub fn runs_end()
     ensures ends { EveryRunEnds }
     ensures outcome { ComesToItsOutcome }
+    ensures outcomes { ComeToTheirOutcomes }
     ensures once { EndsOnce }
 {}
 

@@ -23,4 +23,18 @@ pub enum Step {
     Remove {
         id: u32,
     },
+    /// The selection goes to these places, or is attached there; its start may lie behind its end.
+    Select {
+        start: i32,
+        end: i32,
+    },
+    /// The selection goes.
+    Deselect,
+    /// The composing region goes, and every span whose flags word says that it is part of a composing text.
+    Drop,
+    /// The units from `start` to `end` become the composing region.
+    Mark {
+        start: u32,
+        end: u32,
+    },
 }

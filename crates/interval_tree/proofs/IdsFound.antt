@@ -1,13 +1,12 @@
 -- A row that is found by its id.
-use Rattle.std.proofs.Common.{◌≡◌, ℕ, ◌<◌, ◌≤◌, Bool, eqb, List, map, length, get_or, sym, ap, ◌∙◌, Some, None, arith, eq-eqb, inl, inr}
-use Rattle.std.specs.List.{All, Contains, position, position_or_len, range_with_len}
-use Rattle.std.specs.List.Sorted.{IsPermutation}
-use Rattle.std.proofs.lemmas.Bool.{ne_eqb}
+use Rattle.std.proofs.Common.{◌≡◌, ℕ, ◌-◌, ◌<◌, ◌≤◌, Bool, eqb, List, map, length, get_or, sym, ap, ◌∙◌, Some, None, arith, eq-eqb, inl, inr}
+use Rattle.std.specs.List.{Contains, position, position_or_len, range_with_len}
+use Rattle.std.proofs.lemmas.Bool.{cases_lt, ne_eqb}
 use Rattle.std.proofs.lemmas.Grind.{get_or_default_zero}
 use Rattle.std.proofs.lemmas.Bool.Decides.{Decides-eqb, leb_tells, nat_tests}
 use Rattle.std.proofs.lemmas.List.{get_or-map, length-map}
 use Rattle.std.proofs.lemmas.List.FromFn.{length-range_with_len, get_or-range_with_len}
-use Rattle.std.proofs.lemmas.List.Sorted.{All-permutation, Contains-permutation}
+use Rattle.std.proofs.lemmas.List.Sorted.{Contains-permutation}
 use Rattle.std.proofs.lemmas.List.Sums.{position_or_len_is}
 use Rattle.std.proofs.lemmas.Map.Made.{AllPairs-from_IsDistinct}
 use Rattle.edit_model.specs.State.{Span}
@@ -15,6 +14,8 @@ use Rattle.edit_model.specs.Attached.{has_id}
 use Rattle.span_table.specs.declared.kept.KeptRow.{KeptRow}
 use Rattle.span_table.specs.Table.{no_row, no_span, place_of, seen}
 use Rattle.interval_tree.specs.Ids.{HaveDistinctIds, IsById, id_at, ids_of, same_number}
+use Rattle.interval_tree.specs.Tree.{IsPlaced}
+use Rattle.interval_tree.proofs.Placed.{placed_below}
 
 -- ---- the first place that passes
 
@@ -26,15 +27,9 @@ at_place p xs i is within = rw is (grind (arith, nat_tests))
 
 -- ---- places of rows
 
-module _ (kept : List KeptRow) (places : List ℕ) (all : IsPermutation (range_with_len 0 (length kept)) places) where
-  pub below : All (λ place. place < length kept) places
-  below = All-permutation (λ place. place < length kept) (range_with_len 0 (length kept)) places all
-      (λ k d within. let long = length-range_with_len 0 (length kept) in
-      rw (get_or-range_with_len 0 (length kept) k d (omega arith)) (omega arith))
-
-  pub held : (k : ℕ) → k < length kept → Contains places k
-  held k within = Contains-permutation (range_with_len 0 (length kept)) places k all
-      (k, rw length-range_with_len within, get_or-range_with_len 0 (length kept) k k within ∙ omega arith)
+held : (n : ℕ) (places : List ℕ) → IsPlaced n places → (k : ℕ) → k < length places → Contains places k
+held n places placed k within = Contains-permutation (range_with_len 0 (length places)) places k placed.all
+    (k, rw length-range_with_len within, get_or-range_with_len 0 (length places) k k within ∙ omega arith)
 
 to_zero : (places : List ℕ) (j k : ℕ) → j < length places → get_or places j k ≡ k → get_or places j 0 ≡ k
 to_zero places j k within is = sym (get_or_default_zero places j k within) ∙ is
@@ -69,7 +64,7 @@ module _ (gap room : ℕ) (kept : List KeptRow) (by_id : List ℕ) (id at : ℕ)
     (lower : (k : ℕ) → k < at → id_at kept (get_or by_id k 0) < id)
     (no_lower : (k : ℕ) → at ≤ k → k < length by_id → id ≤ id_at kept (get_or by_id k 0)) where
   pub found : (place : ℕ) → at < length by_id → place ≡ get_or by_id at 0 → id_at kept place ≡ id → Some place ≡ place_of id (map (seen gap room) kept)
-  found place within there is = found_at gap room kept id ids.distinct place (rw there (below kept by_id ids.all at 0 within)) is
+  found place within there is = found_at gap room kept id ids.distinct place (rw there (placed_below (length kept) by_id ids.placed at 0 within)) is
 
   -- the id at the point is another one, and those behind it are greater
   missed : (at < length by_id → id_at kept (get_or by_id at 0) ≡ id → ⊥) → (j : ℕ) → j < length by_id → id_at kept (get_or by_id j 0) ≡ id → ⊥
@@ -81,6 +76,11 @@ module _ (gap room : ℕ) (kept : List KeptRow) (by_id : List ℕ) (id at : ℕ)
     | inr w ↦ omega (arith, lower j w.1)
   ]
 
-  pub not_found : (at < length by_id → id_at kept (get_or by_id at 0) ≡ id → ⊥) → None ≡ place_of id (map (seen gap room) kept)
-  not_found other = found_nowhere gap room kept id
-      (λ k within is. let at_k = held kept by_id ids.all k within in missed other at_k.0 at_k.1 (ap (id_at kept) (to_zero by_id at_k.0 k at_k.1 at_k.2) ∙ is))
+  -- nor has the last row that id, where it stands apart
+  pub not_found : (length by_id < length kept → id_at kept (length kept - 1) ≡ id → ⊥) → (at < length by_id → id_at kept (get_or by_id at 0) ≡ id → ⊥)
+      → None ≡ place_of id (map (seen gap room) kept)
+  not_found last other = found_nowhere gap room kept id (λ k within is. elim (cases_lt k (length by_id)) [
+    | inl inside ↦ (let at_k = held (length kept) by_id ids.placed k inside in
+        missed other at_k.0 at_k.1 (ap (id_at kept) (to_zero by_id at_k.0 k at_k.1 at_k.2) ∙ is))
+    | inr past ↦ (let here : length kept - 1 ≡ k = omega (arith, ids.placed.last) in last (omega arith) (ap (id_at kept) here ∙ is))
+  ])

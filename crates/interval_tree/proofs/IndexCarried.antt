@@ -1,7 +1,6 @@
 -- What is kept beside rows stays as it is while their ids, their flags' kinds and what they are stay.
 use Rattle.std.proofs.Common.{◌≡◌, ℕ, ◌<◌, Bool, true, false, cond, List, [], ◌∷◌, suc, map, length, get_or, refl, sym, subst, ap, ◌∙◌, arith}
 use Rattle.std.specs.List.{IsDistinct, filter, range_with_len}
-use Rattle.std.specs.List.Sorted.{IsPermutation}
 use Rattle.std.proofs.Math.ListN.{set, get_or-map}
 use Rattle.std.proofs.Math.Seq.{map-set_same}
 use Rattle.std.proofs.lemmas.List.{length-map, get_or-set_same}
@@ -12,7 +11,8 @@ use Rattle.edit_model.specs.Over.{is_watch}
 use Rattle.span_table.specs.declared.kept.KeptRow.{KeptRow}
 use Rattle.span_table.specs.Table.{kept_at, kept_span, no_row, no_span, seen, span_at}
 use Rattle.interval_tree.specs.Ids.{IsById, id_at, ids_of, same_number}
-use Rattle.interval_tree.specs.Kinds.{AreAlike, IsTally, is_paragraph_row, most_seats, paragraph_count, seats_of}
+use Rattle.interval_tree.specs.Tree.{IsPlaced}
+use Rattle.interval_tree.specs.Kinds.{AreAlike, IsTally, is_composing_row, is_paragraph_row, most_seats, seats_of}
 
 abbrev is_seat_row : KeptRow → Bool
 is_seat_row row = is_watch row.what
@@ -28,9 +28,9 @@ passes : {X : Type 0} (p : X → Bool) (xs : List X) → length (filter p xs) �
 passes p [] = refl
 passes p (x ∷ xs) = one_more (p x) x (filter p xs) (filter (λ b. b) (map p xs)) (passes p xs)
 
-paragraphs_alike : (kept others : List KeptRow) → map is_paragraph_row kept ≡ map is_paragraph_row others → paragraph_count kept ≡ paragraph_count others
-paragraphs_alike kept others alike =
-    passes is_paragraph_row kept ∙ ap (λ tests. length (filter (λ b. b) tests)) alike ∙ sym (passes is_paragraph_row others)
+rows_alike : (test : KeptRow → Bool) (kept others : List KeptRow) → map test kept ≡ map test others
+    → length (filter test kept) ≡ length (filter test others)
+rows_alike test kept others alike = passes test kept ∙ ap (λ tests. length (filter (λ b. b) tests)) alike ∙ sym (passes test others)
 
 seats_by : List Bool → List ℕ
 seats_by tests = filter (λ i. get_or tests i false) (range_with_len 0 (length tests))
@@ -45,11 +45,13 @@ seats_as kept =
 seats_alike : (kept others : List KeptRow) → map is_seat_row kept ≡ map is_seat_row others → seats_of kept ≡ seats_of others
 seats_alike kept others alike = seats_as kept ∙ ap seats_by alike ∙ sym (seats_as others)
 
-tally_carried : {kept others : List KeptRow} {paragraphs : ℕ} {seats : List ℕ} {whole : Bool}
-    → map is_paragraph_row kept ≡ map is_paragraph_row others → map is_seat_row kept ≡ map is_seat_row others
-    → IsTally kept paragraphs seats whole → IsTally others paragraphs seats whole
-tally_carried {kept} {others} {paragraphs} {seats} {whole} paragraphs_stay seats_stay tally = record {
-  counted = tally.counted ∙ paragraphs_alike kept others paragraphs_stay;
+tally_carried : {kept others : List KeptRow} {paragraphs composing : ℕ} {seats : List ℕ} {whole : Bool}
+    → map is_paragraph_row kept ≡ map is_paragraph_row others → map is_composing_row kept ≡ map is_composing_row others
+    → map is_seat_row kept ≡ map is_seat_row others
+    → IsTally kept paragraphs composing seats whole → IsTally others paragraphs composing seats whole
+tally_carried {kept} {others} {paragraphs} {composing} {seats} {whole} paragraphs_stay composing_stays seats_stay tally = record {
+  counted = tally.counted ∙ rows_alike is_paragraph_row kept others paragraphs_stay;
+  composed = tally.composed ∙ rows_alike is_composing_row kept others composing_stays;
   listed = λ all. tally.listed all ∙ seats_alike kept others seats_stay;
   many = λ some. subst (λ places. most_seats < length places) (seats_alike kept others seats_stay) (tally.many some);
 }
@@ -64,7 +66,7 @@ ids_carried {kept} {others} {by_id} stay ids =
     let long : length kept ≡ length others = sym (length-map kept (λ row. row.id)) ∙ ap length stay ∙ length-map others (λ row. row.id) in
     let same : ((i : ℕ) → id_at kept i ≡ id_at others i) = λ i. id_as kept i ∙ ap (λ numbers. get_or numbers i 0) stay ∙ sym (id_as others i) in
     record {
-      all = subst (λ n. IsPermutation (range_with_len 0 n) by_id) long ids.all;
+      placed = subst (λ n. IsPlaced n by_id) long ids.placed;
       rising = λ i j d order within.
           omega (arith, same (get_or by_id i d), same (get_or by_id j d), ids.rising i j d order within);
       distinct = subst (IsDistinct same_number) stay ids.distinct;
@@ -89,10 +91,11 @@ module _ (kept changed : List KeptRow) (i : ℕ) (row : KeptRow) (is : changed �
   pub ids_changed : (by_id : List ℕ) → row.id ≡ id_at kept i → IsById kept by_id → IsById changed by_id
   ids_changed by_id stays = ids_carried (sym (ap ids_of is ∙ map-set_same (λ other. other.id) kept i row no_row stays))
 
-  pub tally_changed : (paragraphs : ℕ) (seats : List ℕ) (whole : Bool) → AreAlike (kept_at kept i) row
-      → IsTally kept paragraphs seats whole → IsTally changed paragraphs seats whole
-  tally_changed paragraphs seats whole alike = tally_carried
+  pub tally_changed : (paragraphs composing : ℕ) (seats : List ℕ) (whole : Bool) → AreAlike (kept_at kept i) row
+      → IsTally kept paragraphs composing seats whole → IsTally changed paragraphs composing seats whole
+  tally_changed paragraphs composing seats whole alike = tally_carried
       (sym (ap (map is_paragraph_row) is ∙ map-set_same is_paragraph_row kept i row no_row (sym alike.paragraphs)))
+      (sym (ap (map is_composing_row) is ∙ map-set_same is_composing_row kept i row no_row (sym alike.composing)))
       (sym (ap (map is_seat_row) is ∙ map-set_same is_seat_row kept i row no_row (sym alike.seats)))
 
 -- what counts alike at a place

@@ -1,12 +1,15 @@
 -- Spans that are seen as the rows change.
-use Rattle.std.proofs.Common.{◌≡◌, ℕ, Bool, true, false, List, map, refl, ap, ◌∙◌, arith}
+use Rattle.std.proofs.Common.{◌≡◌, ℕ, Bool, true, false, cond, List, [], ◌∷◌, suc, map, length, refl, ap, ◌∙◌, arith}
+use Rattle.std.specs.List.{filter}
 use Rattle.std.proofs.Math.ListN.{set}
 use Rattle.std.proofs.lemmas.Bool.Decides.{nat_tests}
 use Rattle.std.proofs.lemmas.List.{drop-map, map-append, map-set, take-map}
+use Rattle.edit_model.specs.Flags.{is_composing}
 use Rattle.edit_model.specs.State.{Span}
 use Rattle.span_table.specs.declared.kept.KeptRow.{KeptRow}
 use Rattle.span_table.specs.Offsets.{ends_behind, offset_at, place_at, starts_behind}
 use Rattle.span_table.specs.Table.{kept_span, seen, without_at}
+use Rattle.interval_tree.specs.Kinds.{composing_count, is_composing_row}
 
 back_again : (gap room : ℕ) (behind : Bool) (place : ℕ) → place_at gap room (offset_at gap room behind place) ≡ place
 back_again gap room true place = grind (arith, nat_tests)
@@ -35,6 +38,17 @@ spans_changed gap room kept new_gap new_room changed i span same_gap same_room i
 pub spans_alike : (gap room : ℕ) (kept : List KeptRow) (other_gap other_room : ℕ) (others : List KeptRow)
     → gap ≡ other_gap → room ≡ other_room → kept ≡ others → map (seen gap room) kept ≡ map (seen other_gap other_room) others
 spans_alike gap room kept other_gap other_room others same_gap same_room same = rw (same_gap, same_room, same) refl
+
+-- the spans that are part of a composing text are as many as the rows
+both_more : (b : Bool) (row : KeptRow) (rows : List KeptRow) (span : Span) (spans : List Span) → length rows ≡ length spans
+    → length (cond b (row ∷ rows) rows) ≡ length (cond b (span ∷ spans) spans)
+both_more true row rows span spans same = ap suc same
+both_more false row rows span spans same = same
+
+pub composing_seen : (gap room : ℕ) (kept : List KeptRow) → length (filter is_composing_row kept) ≡ composing_count (map (seen gap room) kept)
+composing_seen gap room [] = refl
+composing_seen gap room (row ∷ kept) = both_more (is_composing_row row) row (filter is_composing_row kept) (seen gap room row)
+    (filter (λ span. is_composing span.flags) (map (seen gap room) kept)) (composing_seen gap room kept)
 
 -- the row at a place goes
 pub spans_without : (gap room : ℕ) (kept : List KeptRow) (new_gap new_room : ℕ) (left : List KeptRow) (i : ℕ)

@@ -1,5 +1,5 @@
 mod IdsFound
-mod IdsPlaced
+pub mod Placed
 mod IndexAhead
 mod IndexCarried
 pub mod IndexPlaces
@@ -13,6 +13,7 @@ pub mod QueryLists
 pub mod QueryOrder
 pub mod QuerySeats
 pub mod QueryTree
+mod TallyLess
 mod TallyMore
 pub mod WalkEmptied
 pub mod WalkParts
@@ -22,5 +23,6 @@ pub mod WindowTops
 pub mod WindowOrder
 pub mod WindowPlaces
 pub mod WindowRemoved
-mod IdsAttached
+pub mod IdsAttached
 pub mod WindowFound
+pub mod OrderAdded

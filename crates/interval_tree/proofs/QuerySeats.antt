@@ -4,7 +4,7 @@ use Rattle.std.specs.List.{All, filter, range_with_len}
 use Rattle.std.specs.Result.{OnOk}
 use Rattle.std.proofs.lemmas.List.{length-map, length-take-le, take_more}
 use Rattle.std.proofs.lemmas.List.FromFn.{length-range_with_len}
-use Rattle.std.proofs.lemmas.List.Elements.{All-filter, All-head, All-tail, filter-append}
+use Rattle.std.proofs.lemmas.List.Elements.{All-filter, All-head, All-tail}
 use Rattle.edit_base.specs.declared.rows.Pick.TheVariants.{All as Every, Watches}
 use Rattle.edit_base.specs.declared.rows.SpanRow.{SpanRow}
 use Rattle.edit_model.specs.State.{Span}
@@ -15,8 +15,9 @@ use Rattle.interval_tree.specs.declared.walk.Asked.TheVariants.{Over}
 use Rattle.interval_tree.specs.Kinds.{seats_of}
 use Rattle.span_table.specs.Table.{Rows, kept_at, seen, span_at, spans_of}
 use Rattle.interval_tree.specs.Walk.{answers, found, row_at}
-use Rattle.interval_tree.proofs.QueryTree.{all_range, seen_at}
-use Rattle.interval_tree.proofs.WalkParts.{filter_short, found_short, map_cat, row_is}
+use Rattle.interval_tree.proofs.Placed.{all_range}
+use Rattle.interval_tree.proofs.QueryTree.{seen_at}
+use Rattle.interval_tree.proofs.WalkParts.{filter_short, found_append, found_short, row_is}
 
 module _ (start end : ℕ) (spans : List Span) (row : SpanRow) (i : ℕ) (span : span_of row ≡ span_at spans i) where
   pub seat_found : row.order ≡ i → lies_over start end (span_of row) ≡ true → row ∷ [] ≡ found (Over Every) start end spans (i ∷ [])
@@ -35,11 +36,8 @@ module _ (start end : ℕ) (spans : List Span) (row : SpanRow) (i : ℕ) (span :
 
 pub found_more : (asked : Asked) (start end : ℕ) (spans : List Span) (places : List ℕ) (i : ℕ) → i < length places
     → found asked start end spans (take (i + 1) places) ≡ found asked start end spans (take i places) ++ found asked start end spans (get_or places i 0 ∷ [])
-unfolding found
 found_more asked start end spans places i below =
-    ap (λ these. map (row_at spans) (filter (λ j. answers asked start end (span_at spans j)) these)) (take_more places i 0 below)
-    ∙ ap (map (row_at spans)) (filter-append (λ j. answers asked start end (span_at spans j)) (take i places) (get_or places i 0 ∷ []))
-    ∙ map_cat (row_at spans) _ _
+    ap (found asked start end spans) (take_more places i 0 below) ∙ found_append asked start end spans (take i places) (get_or places i 0 ∷ [])
 
 -- ---- the seats are all the places that are watched
 

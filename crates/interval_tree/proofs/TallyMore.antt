@@ -12,7 +12,7 @@ use Rattle.std.proofs.lemmas.List.FromFn.{length-range_with_len, get_or-range_wi
 use Rattle.edit_model.specs.Over.{is_watch}
 use Rattle.span_table.specs.declared.kept.KeptRow.{KeptRow}
 use Rattle.span_table.specs.Table.{kept_at, no_row}
-use Rattle.interval_tree.specs.Kinds.{IsTally, is_ahead, is_paragraph_row, most_seats, paragraph_count, seats_of}
+use Rattle.interval_tree.specs.Kinds.{IsTally, is_ahead, is_composing_row, is_paragraph_row, most_seats, seats_of}
 
 -- ---- lists
 
@@ -38,10 +38,16 @@ one_or_none : (b : Bool) (row : KeptRow) → length (cond b (row ∷ []) []) ≡
 one_or_none true row = refl
 one_or_none false row = refl
 
-more_paragraphs : (kept : List KeptRow) (row : KeptRow) → paragraph_count (kept ++ row ∷ []) ≡ paragraph_count kept + cond (is_paragraph_row row) 1 0
-more_paragraphs kept row =
-    ap length (filter-append is_paragraph_row kept (row ∷ [])) ∙ length-append (filter is_paragraph_row kept) (filter is_paragraph_row (row ∷ []))
-    ∙ ap (λ n. paragraph_count kept + n) (one_or_none (is_paragraph_row row) row)
+-- the rows of a kind, and one more
+more_rows : (test : KeptRow → Bool) (kept : List KeptRow) (row : KeptRow)
+    → length (filter test (kept ++ row ∷ [])) ≡ length (filter test kept) + cond (test row) 1 0
+more_rows test kept row =
+    ap length (filter-append test kept (row ∷ [])) ∙ length-append (filter test kept) (filter test (row ∷ []))
+    ∙ ap (λ n. length (filter test kept) + n) (one_or_none (test row) row)
+
+counted_by : (test : KeptRow → Bool) (kept : List KeptRow) (row : KeptRow) (old new : ℕ) → old ≡ length (filter test kept)
+    → new ≡ old + cond (test row) 1 0 → new ≡ length (filter test (kept ++ row ∷ []))
+counted_by test kept row old new before one = one ∙ ap (λ n. n + cond (test row) 1 0) before ∙ sym (more_rows test kept row)
 
 more_seats : (kept : List KeptRow) (row : KeptRow) → seats_of (kept ++ row ∷ []) ≡ seats_of kept ++ cond (is_watch row.what) (length kept ∷ []) []
 more_seats kept row =
@@ -57,24 +63,29 @@ more_seats kept row =
     ∙ ap (λ i. seats_of kept ++ cond (is_watch (kept_at all i).what) (i ∷ []) []) (omega arith)
     ∙ ap (λ there. seats_of kept ++ cond (is_watch there.what) (n ∷ []) []) (get_or-append_seam kept row [] no_row)
 
-module _ (kept : List KeptRow) (row : KeptRow) (paragraphs more : ℕ) (seats : List ℕ) (whole : Bool) (tally : IsTally kept paragraphs seats whole)
-    (one : more ≡ paragraphs + cond (is_paragraph_row row) 1 0) where
-  counted_more : more ≡ paragraph_count (kept ++ row ∷ [])
-  counted_more = one ∙ ap (λ n. n + cond (is_paragraph_row row) 1 0) tally.counted ∙ sym (more_paragraphs kept row)
+module _ (kept : List KeptRow) (row : KeptRow) (paragraphs more composing grown : ℕ) (seats : List ℕ) (whole : Bool)
+    (tally : IsTally kept paragraphs composing seats whole)
+    (one : more ≡ paragraphs + cond (is_paragraph_row row) 1 0) (other : grown ≡ composing + cond (is_composing_row row) 1 0) where
+  counted_more : more ≡ length (filter is_paragraph_row (kept ++ row ∷ []))
+  counted_more = counted_by is_paragraph_row kept row paragraphs more tally.counted one
 
-  pub no_seat : is_watch row.what ≡ false → IsTally (kept ++ row ∷ []) more seats whole
+  composed_more : grown ≡ length (filter is_composing_row (kept ++ row ∷ []))
+  composed_more = counted_by is_composing_row kept row composing grown tally.composed other
+
+  pub no_seat : is_watch row.what ≡ false → IsTally (kept ++ row ∷ []) more grown seats whole
   no_seat isnt =
       let same : seats_of (kept ++ row ∷ []) ≡ seats_of kept =
       more_seats kept row ∙ ap (λ b. seats_of kept ++ cond b (length kept ∷ []) []) isnt ∙ append-nil _ in
-      record { counted = counted_more; listed = λ is. tally.listed is ∙ sym same; many = λ is. rw same (tally.many is) }
+      record { counted = counted_more; composed = composed_more; listed = λ is. tally.listed is ∙ sym same; many = λ is. rw same (tally.many is) }
 
   pub seat_listed : (place : ℕ) (longer : List ℕ) → length kept ≡ place → is_watch row.what ≡ true → longer ≡ seats ++ place ∷ []
-      → IsTally (kept ++ row ∷ []) more longer whole
+      → IsTally (kept ++ row ∷ []) more grown longer whole
   seat_listed place longer here is pushed =
       let one_more : seats_of (kept ++ row ∷ []) ≡ seats_of kept ++ length kept ∷ [] =
       more_seats kept row ∙ ap (λ b. seats_of kept ++ cond b (length kept ∷ []) []) is in
       record {
         counted = counted_more;
+        composed = composed_more;
         listed = λ all. pushed ∙ ap (λ xs. xs ++ place ∷ []) (tally.listed all) ∙ ap (λ i. seats_of kept ++ i ∷ []) (sym here) ∙ sym one_more;
         many = λ some. rw (one_more, length-append) (let most = tally.many some in omega arith);
       }
@@ -83,19 +94,20 @@ module _ (kept : List KeptRow) (row : KeptRow) (paragraphs more : ℕ) (seats : 
   too_many full true is = let same = ap length (tally.listed is) in omega arith
   too_many full false is = let most = tally.many is in omega arith
 
-  pub seat_left_out : (listed : List ℕ) → is_watch row.what ≡ true → length seats ≡ most_seats → IsTally (kept ++ row ∷ []) more listed false
+  pub seat_left_out : (listed : List ℕ) → is_watch row.what ≡ true → length seats ≡ most_seats → IsTally (kept ++ row ∷ []) more grown listed false
   seat_left_out listed is full =
       let one_more : seats_of (kept ++ row ∷ []) ≡ seats_of kept ++ length kept ∷ [] =
       more_seats kept row ∙ ap (λ b. seats_of kept ++ cond b (length kept ∷ []) []) is in
       record {
         counted = counted_more;
+        composed = composed_more;
         listed = λ all. absurd (cc);
         many = λ some. rw (one_more, length-append) (too_many full whole refl);
       }
 
--- no more rows stand at boundaries than there are
-pub paragraphs_most : (kept : List KeptRow) → paragraph_count kept ≤ length kept
-paragraphs_most kept = omega (arith, length-filter_both is_paragraph_row (λ row. not (is_paragraph_row row)) (λ row. refl) kept)
+-- no more rows are of a kind than there are
+pub counted_most : (test : KeptRow → Bool) (kept : List KeptRow) → length (filter test kept) ≤ length kept
+counted_most test kept = omega (arith, length-filter_both test (λ row. not (test row)) (λ row. refl) kept)
 
 -- the row that is read at the end of a longer list
 pub row_added : (kept added : List KeptRow) (row read : KeptRow) (place : ℕ) → added ≡ kept ++ row ∷ [] → place ≡ length kept

@@ -5,6 +5,7 @@ use Rattle.std.specs.List.Sorted.{IsPermutation}
 use Rattle.std.proofs.Math.ListN.{get_or-eq_default}
 use Rattle.std.proofs.lemmas.Bool.{cases_lt}
 use Rattle.std.proofs.lemmas.Bool.Decides.{nat_tests}
+use Rattle.std.proofs.lemmas.List.Elements.{filter-append}
 use Rattle.std.proofs.lemmas.List.Recursion.{is_position_or_len}
 use Rattle.edit_base.specs.declared.rows.SpanRow.{SpanRow}
 use Rattle.edit_model.specs.State.{Span}
@@ -51,6 +52,17 @@ pub emptied_none : (start end grown : ℕ) (spans : List Span) (places : List �
 unfolding emptied
 emptied_none start end grown spans [] best none = refl
 emptied_none start end grown spans (place ∷ places) best none = absurd (omega (arith, none))
+
+-- one row
+module _ (start end grown : ℕ) (spans : List Span) (row : SpanRow) (i n : ℕ) (span : span_of row ≡ span_at spans i) where
+  pub least_taken : is_emptied start end grown (span_of row) ≡ true → i < n → i ≡ least n (emptied start end grown spans (i ∷ []))
+  unfolding emptied
+  least_taken is below = let here : is_emptied start end grown (span_at spans i) ≡ true = ap (is_emptied start end grown) (sym span) ∙ is in
+      rw here (omega arith)
+
+  pub least_passed : is_emptied start end grown (span_of row) ≡ false → n ≡ least n (emptied start end grown spans (i ∷ []))
+  unfolding emptied
+  least_passed is = let here : is_emptied start end grown (span_at spans i) ≡ false = ap (is_emptied start end grown) (sym span) ∙ is in rw here refl
 
 -- what stands before the middle, then the middle, then what stands behind it
 pub emptied_all : (start end grown : ℕ) (spans : List Span) (places left right : List ℕ) (m : ℕ) (row : SpanRow) (best first second last : ℕ)
@@ -174,10 +186,15 @@ module _ {X : Type 0} (test : X → Bool) (xs : List X) (first : ℕ) (is : firs
       sym (ap (λ passes. cond passes (Some (position_or_len test xs)) None) (lies_past (position_or_len test xs) (length xs) (omega (arith, is, past))))
 
 -- the least of all places is that of the first
-pub whole_first : (start end grown : ℕ) (spans : List Span) (by_start : List ℕ) (count first : ℕ) → IsPermutation (range_with_len 0 (length spans)) by_start
-    → count ≡ length spans
-    → first ≡ least count (emptied start end grown spans by_start) → first ≡ position_or_len (is_emptied start end grown) spans
-whole_first start end grown spans by_start count first all c f =
-    f ∙ ap (λ limit. least limit (emptied start end grown spans by_start)) c
-    ∙ sym (least_permutation start end grown spans (length spans) (range_with_len 0 (length spans)) by_start all)
+pub whole_first : (start end grown : ℕ) (spans : List Span) (apart by_start : List ℕ) (count last first : ℕ)
+    → IsPermutation (range_with_len 0 (length spans)) (apart ++ by_start) → count ≡ length spans → last ≡ least count (emptied start end grown spans apart)
+    → first ≡ least last (emptied start end grown spans by_start) → first ≡ position_or_len (is_emptied start end grown) spans
+unfolding emptied
+whole_first start end grown spans apart by_start count last first all c l f =
+    let test = λ (i : ℕ). is_emptied start end grown (span_at spans i) in
+    f ∙ ap (λ limit. least limit (filter test by_start)) l
+    ∙ sym (least_append count (filter test apart) (filter test by_start))
+    ∙ ap (least count) (sym (filter-append test apart by_start))
+    ∙ ap (λ limit. least limit (filter test (apart ++ by_start))) c
+    ∙ sym (least_permutation start end grown spans (length spans) (range_with_len 0 (length spans)) (apart ++ by_start) all)
     ∙ least_is_first start end grown spans

@@ -65,6 +65,12 @@ found_parts asked start end spans places m below =
     ∙ map_cat (row_at spans) _ _
     ∙ ap (λ rest. found asked start end spans (take m places) ++ rest) (found_one _ asked start end spans (get_or places m 0) (drop (m + 1) places) refl)
 
+pub found_append : (asked : Asked) (start end : ℕ) (spans : List Span) (before after : List ℕ)
+    → found asked start end spans (before ++ after) ≡ found asked start end spans before ++ found asked start end spans after
+unfolding found
+found_append asked start end spans before after =
+    ap (map (row_at spans)) (filter-append (λ i. answers asked start end (span_at spans i)) before after) ∙ map_cat (row_at spans) _ _
+
 pub found_none : (asked : Asked) (start end : ℕ) (spans : List Span) → found asked start end spans [] ≡ []
 unfolding found
 found_none asked start end spans = refl
@@ -101,6 +107,16 @@ row_is spans row i span order =
       order = at;
       what = (span_at spans i).what;
     }) order
+
+-- a row that is read is found where it answers
+pub found_row : (asked : Asked) (start end : ℕ) (spans : List Span) (row : SpanRow) (i : ℕ) → span_of row ≡ span_at spans i → row.order ≡ i
+    → cond (answers asked start end (span_of row)) (row ∷ []) [] ≡ found asked start end spans (i ∷ [])
+found_row asked start end spans row i span order =
+    ap (λ (this : Span). cond (answers asked start end this) (row ∷ []) []) span
+    ∙ ap (λ this. cond (answers asked start end (span_at spans i)) (this ∷ []) []) (row_is spans row i span order)
+    ∙ sym (append-nil (cond (answers asked start end (span_at spans i)) (row_at spans i ∷ []) []))
+    ∙ ap (λ rest. cond (answers asked start end (span_at spans i)) (row_at spans i ∷ []) [] ++ rest) (sym (found_none asked start end spans))
+    ∙ sym (found_one _ asked start end spans i [] refl)
 
 -- there is room for the middle, and for what stands behind it
 module _ (asked : Asked) (start end : ℕ) (spans : List Span) (places left right : List ℕ) (m : ℕ) (row : SpanRow) (out first kept : List SpanRow)

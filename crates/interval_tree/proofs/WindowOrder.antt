@@ -14,8 +14,9 @@ use Rattle.std.proofs.lemmas.Bool.{cases_lt}
 use Rattle.std.proofs.lemmas.Bool.Decides.{Decides-eqb, nat_tests}
 use Rattle.span_table.specs.declared.kept.KeptRow.{KeptRow}
 use Rattle.span_table.specs.Table.{kept_at, no_row}
-use Rattle.interval_tree.specs.Tree.{IsIndex, Topped, kept_start, kept_end}
+use Rattle.interval_tree.specs.Tree.{IsIndex, IsPlaced, Topped, kept_start, kept_end}
 use Rattle.interval_tree.specs.Window.{WasIndex, WereTops, moved}
+use Rattle.interval_tree.proofs.Placed.{placed_same}
 use Rattle.interval_tree.proofs.WindowMoves.{entry_below, entry_above, length-moved, moved_none, moved_at}
 
 -- ---- places that stand once
@@ -124,7 +125,7 @@ kept_other kept old row i p e ne = ap (λ rows. kept_at rows p) e ∙ get_or-set
 same_row : {kept : List KeptRow} {xs tops : List ℕ} {at : ℕ} (w : WasIndex kept xs tops at) → at < length xs → (k : ℕ) → k < length xs → k ≢ at
     → kept_at kept (get_or xs k 0) ≡ kept_at w.old (get_or xs k 0)
 same_row {kept} {xs} {tops} {at} w lt k within ne = kept_other kept w.old w.row (get_or xs at 0) (get_or xs k 0) w.is
-    (apart_from (length w.old) xs at k w.index.all lt within ne)
+    (apart_from (length xs) xs at k w.index.placed.all lt within ne)
 
 pub turned_tops : {kept : List KeptRow} {xs zs tops : List ℕ} {at : ℕ} (low high n : ℕ) → WasIndex kept xs tops at → at < length xs → high < length xs
     → zs ≡ moved xs at high → low ≤ at → low ≤ high → n ≡ max at high + 1 → WereTops (map (kept_end kept) zs) tops low n
@@ -167,8 +168,8 @@ turned {kept} {xs} {ys} {zs} {tops} {new} {at} {low} {high} w lt le e fits le' l
     let start : key (get_or ys low 0) ≡ key (get_or xs at 0) = ap key x in
     let count : length kept ≡ length w.old = ap length w.is ∙ length-set w.old _ w.row in
     record {
-      all = IsPermutation-trans _ _ _ (subst (λ m. IsPermutation (range_with_len 0 m) xs) (sym count) w.index.all)
-          (subst (IsPermutation xs) (sym g) (moved_permutation xs at high lt));
+      placed = subst (λ m. IsPlaced m zs) (sym count)
+          (placed_same (length w.old) xs w.index.placed zs (subst (IsPermutation xs) (sym g) (moved_permutation xs at high lt)));
       rising = subst (IsNonDecreasingBy key) (sym g) (moved_rises (kept_start w.old) key xs at high w.index.rising lt within
           (λ k in' ne. ap (λ row. row.start) (same_row w lt k in' ne))
           (λ some. subst (λ l. key (get_or l (high - 1) 0) ≤ key (get_or xs at 0)) g (⊎_elim

@@ -72,7 +72,7 @@ range_above i a (suc n) lt =
     let on : a + 1 - 1 ≡ a - 1 + 1 = omega arith in
     taken_high i a (range_with_len (a + 1) n) lt ∙ ap (λ l. (a - 1) ∷ l) (range_above i (a + 1) n (omega arith) ∙ ap (λ b. range_with_len b n) on)
 
-range_round : (i a n : ℕ) → a ≤ i → i < a + n → taken_out i (range_with_len a n) ≡ range_with_len a (n - 1)
+pub range_round : (i a n : ℕ) → a ≤ i → i < a + n → taken_out i (range_with_len a n) ≡ range_with_len a (n - 1)
 range_round i a zero le lt = absurd (omega arith)
 range_round i a (suc n) le lt = ⊎_elim
     (λ less.

@@ -1,5 +1,5 @@
 -- The tree over the greatest ends: its nodes are the middles of slices of the order by start.
-use Rattle.std.specs.Prelude.{ℕ, ◌≡◌, ◌<◌, ◌≤◌, ◌+◌, ◌/◌, List, [], map, length, take, drop, slice_index}
+use Rattle.std.specs.Prelude.{ℕ, ◌≡◌, ◌<◌, ◌≤◌, ◌+◌, ◌-◌, ◌/◌, List, [], ◌∷◌, if◌then◌else◌, nat_lt, map, length, take, drop, slice_index}
 use Rattle.std.specs.List.{All, Contains, range_with_len}
 use Rattle.std.specs.List.Sorted.{IsPermutation, IsNonDecreasingBy}
 use Rattle.span_table.specs.declared.kept.KeptRow.{KeptRow}
@@ -26,9 +26,19 @@ pub data Topped : List ℕ → List ℕ → Type 0 where
       → Topped (drop (length ends / 2 + 1) ends) (drop (length ends / 2 + 1) tops)
       → Topped ends tops
 
--- the rows by their starts, and the greatest ends over that order: all of it in offsets
+-- the places of all rows, or of all but the last, each of them once
+pub record IsPlaced (count : ℕ) (places : List ℕ) : Type 0 where
+  pub all : IsPermutation (range_with_len 0 (length places)) places
+  pub most : length places ≤ count
+  pub last : count ≤ length places + 1
+
+-- the place of the last row, where it isn't among these
+abbrev pub apart : ℕ → List ℕ → List ℕ
+apart count places = if nat_lt (length places) count then (count - 1) ∷ [] else []
+
+-- the rows by their starts, and the greatest ends over that order: all of it in offsets. The last row may stand apart.
 pub record IsIndex (kept : List KeptRow) (by_start tops : List ℕ) : Type 0 where
-  pub all : IsPermutation (range_with_len 0 (length kept)) by_start
+  pub placed : IsPlaced (length kept) by_start
   pub rising : IsNonDecreasingBy (kept_start kept) by_start
   pub long : length tops ≡ length by_start
   pub topped : Topped (map (kept_end kept) by_start) tops

@@ -12,31 +12,34 @@ ghost use Rattle.span_table.specs.Table.{HasRoomFor, IsClearOf, closed_span, kep
 ghost use Rattle.span_table.specs.Table.{place_of, pushed_span, span_at, spans_of, without_at};
 ghost use Rattle.interval_tree.specs.Answers.{IsRising, IsWithin, first_emptied, orders_of, touching};
 ghost use Rattle.interval_tree.specs.Ids.{HaveDistinctIds, ids_given, same_number};
-ghost use Rattle.interval_tree.specs.Kinds.{paragraph_count};
-ghost use Rattle.interval_tree.specs.Tree.{IsIndex};
+ghost use Rattle.interval_tree.specs.Kinds.{composing_count, paragraph_count};
+ghost use Rattle.interval_tree.specs.Tree.{IsIndex, IsPlaced};
 ghost use Rattle.interval_tree.specs.Whole.{IsWhole};
 
-use crate::ids::{find, insert_by_id, sort_by_id};
-use crate::order::{put_row, remove_row, settle, take_out};
+use crate::ids::{find, place_last_id, sort_by_id};
+use crate::order::{place_last, put_row, remove_row, settle, take_out_within};
 use crate::query::{Tree, first_emptied, next_edge, over, seats_over, touching};
 use crate::tally::{Tally, counts_alike, tally_of};
-use crate::walk::{Removal, is_emptied, seen};
 use edit_base::{NoMemory, Pick, SpanRow, Steps};
-use span_table::SpanRows;
+use span_flags::is_emptied;
+use span_table::{SpanRows, push_within};
 use std::alloc::Global;
 use std::marker::Model;
 use std::sync::ledger::Ledger;
 
 /// Spans in order of attachment, round a gap of a text, with a tree over their greatest ends and an order by id. Ids
 /// differ. A row that is read has its place in the list as its order.
+///
+/// The row that came last may stand apart from both orders, until another one comes: so one that comes and goes, like the
+/// composing region, leaves them as they are.
 #[derive(Drop)]
 pub struct SpanIndex {
     rows: SpanRows,
-    /// The places of the rows in order by start offset.
+    /// The places of the rows in order by start offset, without the last one where it stands apart.
     by_start: Vec<u32>,
     /// At the middle of each slice of that order, the greatest end offset of the slice.
     tops: Vec<u64>,
-    /// The places of the rows in order by id.
+    /// The places of the rows in order by id, without the last one where it stands apart.
     by_id: Vec<u32>,
     tally: Tally,
 }
@@ -44,7 +47,7 @@ pub struct SpanIndex {
 impl Model for SpanIndex {
     ghost use Rattle.std.specs.Prelude.{length, vec_capacity};
     ghost use Rattle.span_table.specs.Table.{Rows};
-    ghost use Rattle.interval_tree.specs.Whole.{IsWhole, spare_of};
+    ghost use Rattle.interval_tree.specs.Whole.{HasPlaces, IsWhole, spare_of};
 
     ghost Value = { Rows };
 
@@ -56,8 +59,11 @@ impl Model for SpanIndex {
           (vec_capacity it.by_start) (vec_capacity it.tops) (vec_capacity it.by_id);
     } };
 
-    ghost invariant = { λ it. IsWhole it.rows.kept it.by_start.items it.tops.items it.by_id.items
-        it.tally.paragraphs it.tally.seats.items it.tally.whole it.tally.forward };
+    ghost invariant = { λ it. record {
+      whole : IsWhole it.rows.kept it.by_start.items it.tops.items it.by_id.items
+          it.tally.paragraphs it.tally.composing it.tally.seats.items it.tally.whole it.tally.forward;
+      places : HasPlaces (length it.rows.kept) (vec_capacity it.by_start) (vec_capacity it.tops) (vec_capacity it.by_id);
+    } };
 }
 
 impl SpanIndex {
@@ -103,6 +109,13 @@ impl SpanIndex {
         ensures { result ≡ paragraph_count self.now.kept }
     {
         self.tally.paragraphs
+    }
+
+    /// How many rows are part of a composing text, by their flags.
+    pub fn composing(&self) -> u32
+        ensures { result ≡ composing_count (spans_of self.now) }
+    {
+        self.tally.composing
     }
 
     // ---- queries
@@ -189,7 +202,8 @@ impl SpanIndex {
 
     // ---- changes
 
-    /// Makes room for so many rows. Where there is room already no memory is asked for and nothing changes.
+    /// Makes room for so many rows. Where there is room already no memory is asked for. The rows stay as they are, and
+    /// there is room for no fewer, in want of memory too.
     pub fn reserve(&mut self, spans: u32) -> Result<(), NoMemory>
         ensures ok { OnOk result (spans ≤ self.new.spare) }
         ensures kept { self.new.kept ≡ self.old.kept }
@@ -198,14 +212,18 @@ impl SpanIndex {
         ensures spare { self.old.spare ≤ self.new.spare }
         ensures within { spans ≤ self.old.spare → IsOk result }
     {
+        let count = self.rows.count();
         self.rows.reserve(spans)?;
-        self.by_start.reserve(spans as usize)?;
-        self.tops.reserve(spans as usize)?;
-        self.by_id.reserve(spans as usize)?;
+        let starts = missing(self.by_start.len(), count, spans);
+        self.by_start.reserve(starts)?;
+        self.tops.reserve(starts)?;
+        let ids = missing(self.by_id.len(), count, spans);
+        self.by_id.reserve(ids)?;
         Ok(())
     }
 
-    /// Adds a row behind the others. Without memory nothing changes, and where a spare row is left none is asked for.
+    /// Adds a row behind the others, apart from both orders. Without memory nothing changes, and where a spare row is left
+    /// none is asked for.
     pub fn add(&mut self, row: &SpanRow) -> Result<(), NoMemory>
         requires bound { length self.old.kept < 4294967295 }
         requires id { is_attached row.now.id (spans_of self.old) ≡ false }
@@ -221,12 +239,10 @@ impl SpanIndex {
         ensures within { 0 < self.old.spare → IsOk result }
     {
         self.reserve(1)?;
+        place_last(&self.rows, &mut self.by_start, &mut self.tops);
+        place_last_id(&self.rows, &mut self.by_id);
         let place = self.rows.count();
         self.rows.add(row)?;
-        push_in_room(&mut self.by_start, place);
-        push_in_room(&mut self.tops, 0);
-        settle(&self.rows, &mut self.by_start, &mut self.tops);
-        insert_by_id(&self.rows, &mut self.by_id, place);
         self.tally.count(place, &self.rows.kept(place));
         Ok(())
     }
@@ -260,9 +276,10 @@ impl SpanIndex {
         ensures room { self.new.room ≡ self.old.room }
         ensures spare { self.old.spare ≤ self.new.spare }
     {
+        let row = self.rows.kept(i);
         remove_row(&mut self.rows, &mut self.by_start, &mut self.tops, i);
-        take_out(&mut self.by_id, i);
-        self.tally = tally_of(&self.rows);
+        take_out_within(&mut self.by_id, i);
+        self.tally.remove(&self.rows, i, &row);
     }
 
     /// The list becomes these rows. Without memory nothing changes, and none is asked for where no more rows are given
@@ -352,14 +369,8 @@ impl SpanIndex {
 fn first_by_one(rows: &SpanRows, start: u32, end: u32, grown: u32) -> Option<u32>
     ensures { result ≡ first_emptied start end grown (spans_of rows.now) }
 {
-    let removal = Removal {
-        start,
-        end,
-        grown,
-        bound: 0,
-    };
     for place in 0..rows.count() {
-        if is_emptied(&seen(rows, place), &removal) {
+        if is_emptied(&rows.read(place), start, end, grown) {
             return Some(place);
         }
     }
@@ -368,26 +379,16 @@ fn first_by_one(rows: &SpanRows, start: u32, end: u32, grown: u32) -> Option<u32
 
 /// Puts both orders and the greatest ends over all rows right, and counts the rows.
 fn arranged(rows: &SpanRows, by_start: &mut [u32], tops: &mut [u64], by_id: &mut [u32]) -> Tally
-    requires starts { IsPermutation (range_with_len 0 (length rows.now.kept)) by_start.old }
+    requires starts { IsPlaced (length rows.now.kept) by_start.old }
     requires long { length tops.old ≡ length by_start.old }
-    requires ids { IsPermutation (range_with_len 0 (length rows.now.kept)) by_id.old }
+    requires ids { IsPlaced (length rows.now.kept) by_id.old }
     requires distinct { HaveDistinctIds rows.now.kept }
-    ensures { IsWhole rows.now.kept by_start.new tops.new by_id.new result.paragraphs result.seats.items
-        result.whole result.forward }
+    ensures { IsWhole rows.now.kept by_start.new tops.new by_id.new result.paragraphs result.composing
+        result.seats.items result.whole result.forward }
 {
     settle(rows, by_start, tops);
     sort_by_id(rows, by_id);
     tally_of(rows)
-}
-
-/// Adds to a list that has room.
-fn push_in_room<T: Copy>(list: &mut Vec<T>, item: T)
-    requires { vec_len list.old < vec_capacity list.old }
-    ensures items { list.new.items ≡ list.old.items ++ item ∷ [] }
-    ensures capacity { vec_capacity list.old ≤ vec_capacity list.new }
-{
-    // There is room, so this succeeds.
-    let _ = list.push(item);
 }
 
 /// The rows become these, which there is room for, of one step each.
@@ -418,7 +419,7 @@ fn number(list: &mut Vec<u32>, count: u32)
 {
     list.clear();
     for place in 0..count {
-        push_in_room(list, place);
+        push_within(list, place);
     }
 }
 
@@ -430,6 +431,14 @@ fn lengthen(list: &mut Vec<u64>, count: u32)
 {
     // There is room, so this succeeds.
     let _ = list.resize(count as usize, 0);
+}
+
+/// How many entries a list of so many lacks, so that it has one for each row and for so many more.
+fn missing(entries: usize, count: u32, spans: u32) -> usize
+    requires { entries ≤ count }
+    ensures { result ≡ count - entries + spans }
+{
+    count as usize - entries + spans as usize
 }
 
 /// Whether so few seats are read with no more steps than a walk over a tree of so many rows may take.

@@ -6,15 +6,15 @@ ghost use Rattle.edit_model.specs.Rows.{span_of};
 ghost use Rattle.span_table.specs.Table.{kept_span, span_at, spans_of, without_at};
 ghost use Rattle.std.specs.List.{All, range_with_len, slice_set};
 ghost use Rattle.std.specs.List.Sorted.{IsPermutation, IsNonDecreasingBy};
-ghost use Rattle.interval_tree.specs.Tree.{IsIndex, Topped, kept_end, kept_start};
+ghost use Rattle.interval_tree.specs.Tree.{IsIndex, IsPlaced, Topped, kept_end, kept_start};
 ghost use Rattle.interval_tree.specs.Window.{WasIndex, WereTops, fallen, moved, taken_out, top_of, top_over};
 
 use edit_base::SpanRow;
-use span_table::SpanRows;
+use span_table::{SpanRows, push_within};
 
-/// Puts the places of all rows into order by start, and raises the greatest ends over them.
+/// Puts the places of rows into order by start, and raises the greatest ends over them.
 pub fn settle(rows: &SpanRows, by_start: &mut [u32], tops: &mut [u64])
-    requires all { IsPermutation (range_with_len 0 (length rows.now.kept)) by_start.old }
+    requires placed { IsPlaced (length rows.now.kept) by_start.old }
     requires long { length tops.old ≡ length by_start.old }
     ensures { IsIndex rows.now.kept by_start.new tops.new }
 {
@@ -23,7 +23,7 @@ pub fn settle(rows: &SpanRows, by_start: &mut [u32], tops: &mut [u64])
 }
 
 /// The row at a place becomes this one, of the same id and order. Only the part of the order between its old place and
-/// its new one turns, and only the greatest ends over that part are raised.
+/// its new one turns, and only the greatest ends over that part are raised; nothing does where the row stands apart.
 pub fn put_row(rows: &mut SpanRows, by_start: &mut [u32], tops: &mut [u64], i: u32, row: &SpanRow)
     requires index { IsIndex rows.old.kept by_start.old tops.old }
     requires within { i < length rows.old.kept }
@@ -35,6 +35,10 @@ pub fn put_row(rows: &mut SpanRows, by_start: &mut [u32], tops: &mut [u64], i: u
     ensures room { rows.new.room ≡ rows.old.room }
     ensures spare { rows.old.spare ≤ rows.new.spare }
 {
+    if i as usize >= by_start.len() {
+        rows.put(i, row);
+        return;
+    }
     let at = entry_of(rows, by_start, i);
     rows.put(i, row);
     turn(rows, by_start, tops, at);
@@ -42,8 +46,8 @@ pub fn put_row(rows: &mut SpanRows, by_start: &mut [u32], tops: &mut [u64], i: u
 
 /// Where the order names a row. It stands among those that start where it does.
 fn entry_of(rows: &SpanRows, by_start: &[u32], i: u32) -> usize
-    requires place { i < length rows.now.kept }
-    requires all { IsPermutation (range_with_len 0 (length rows.now.kept)) by_start.now }
+    requires place { i < length by_start.now }
+    requires placed { IsPlaced (length rows.now.kept) by_start.now }
     requires rising { IsNonDecreasingBy (kept_start rows.now.kept) by_start.now }
     ensures within { result < length by_start.now }
     ensures row { slice_index by_start.now result ≡ i }
@@ -58,6 +62,7 @@ fn first_from(rows: &SpanRows, by_start: &[u32], start: u64) -> usize
     requires { IsNonDecreasingBy (kept_start rows.now.kept) by_start.now }
     ensures within { result ≤ length by_start.now }
     ensures before { (k : ℕ) → k < result → kept_start rows.now.kept (slice_index by_start.now k) < start }
+    ensures from { (k : ℕ) → result ≤ k → k < length by_start.now → start ≤ kept_start rows.now.kept (slice_index by_start.now k) }
 {
     by_start.partition_point(|&place| start_at(rows, place) < start)
 }
@@ -166,7 +171,44 @@ fn mend_met(rows: &SpanRows, by_start: &[u32], tops: &mut [u64], low: usize, hig
     new != old
 }
 
-/// The row at a place goes, and those behind it take the places before theirs. Nothing is sorted.
+/// Where the last row stands apart, its place goes into the order by start. There is room for it.
+pub fn place_last(rows: &SpanRows, by_start: &mut Vec<u32>, tops: &mut Vec<u64>)
+    requires index { IsIndex rows.now.kept by_start.old.items tops.old.items }
+    requires starts { length rows.now.kept ≤ vec_capacity by_start.old }
+    requires tops { length rows.now.kept ≤ vec_capacity tops.old }
+    ensures index { IsIndex rows.now.kept by_start.new.items tops.new.items }
+    ensures whole { length by_start.new.items ≡ length rows.now.kept }
+    ensures starts { vec_capacity by_start.old ≤ vec_capacity by_start.new }
+    ensures tops { vec_capacity tops.old ≤ vec_capacity tops.new }
+{
+    let count = rows.count();
+    if by_start.len() < count as usize {
+        insert_by_start(rows, by_start, tops, count - 1);
+    }
+}
+
+/// Puts the place of the last row into the order by start of the others, before those that start no earlier, and raises
+/// the greatest ends anew. There is room for it. Nothing is sorted.
+fn insert_by_start(rows: &SpanRows, by_start: &mut Vec<u32>, tops: &mut Vec<u64>, last: u32)
+    requires last { length rows.now.kept ≡ last + 1 }
+    requires others { length by_start.old.items ≡ last }
+    requires index { IsIndex rows.now.kept by_start.old.items tops.old.items }
+    requires starts { vec_len by_start.old < vec_capacity by_start.old }
+    requires tops { vec_len tops.old < vec_capacity tops.old }
+    ensures index { IsIndex rows.now.kept by_start.new.items tops.new.items }
+    ensures whole { length by_start.new.items ≡ length rows.now.kept }
+    ensures starts { vec_capacity by_start.old ≤ vec_capacity by_start.new }
+    ensures tops { vec_capacity tops.old ≤ vec_capacity tops.new }
+{
+    let at = first_from(rows, by_start, start_at(rows, last));
+    // There is room, so this succeeds.
+    let _ = by_start.insert(at, last);
+    push_within(tops, 0);
+    raise(rows, by_start, tops);
+}
+
+/// The row at a place goes, and those behind it take the places before theirs. Nothing is sorted, and the order is not
+/// touched where the row stands apart.
 pub fn remove_row(rows: &mut SpanRows, by_start: &mut Vec<u32>, tops: &mut Vec<u64>, i: u32)
     requires index { IsIndex rows.old.kept by_start.old.items tops.old.items }
     requires within { i < length rows.old.kept }
@@ -179,13 +221,27 @@ pub fn remove_row(rows: &mut SpanRows, by_start: &mut Vec<u32>, tops: &mut Vec<u
     ensures tops { vec_capacity tops.new ≡ vec_capacity tops.old }
 {
     rows.remove(i);
-    take_out(by_start, i);
-    tops.truncate(by_start.len());
-    raise(rows, by_start, tops);
+    if (i as usize) < by_start.len() {
+        take_out(by_start, i);
+        tops.truncate(by_start.len());
+        raise(rows, by_start, tops);
+    }
+}
+
+/// A place goes, as `take_out` does it, where it is one of these.
+pub fn take_out_within(places: &mut Vec<u32>, i: u32)
+    requires { IsPermutation (range_with_len 0 (length places.old.items)) places.old.items }
+    ensures within { i < length places.old.items → places.new.items ≡ taken_out i places.old.items }
+    ensures apart { length places.old.items ≤ i → places.new.items ≡ places.old.items }
+    ensures capacity { vec_capacity places.new ≡ vec_capacity places.old }
+{
+    if (i as usize) < places.len() {
+        take_out(places, i);
+    }
 }
 
 /// A place goes, and those behind it become the places before theirs. The order is kept.
-pub fn take_out(places: &mut Vec<u32>, i: u32)
+fn take_out(places: &mut Vec<u32>, i: u32)
     requires within { i < vec_len places.old }
     requires all { IsPermutation (range_with_len 0 (vec_len places.old)) places.old.items }
     ensures taken { places.new.items ≡ taken_out i places.old.items }
@@ -197,7 +253,7 @@ pub fn take_out(places: &mut Vec<u32>, i: u32)
 }
 
 /// Each place becomes what it is after one went.
-fn fall(places: &mut [u32], gone: u32)
+pub fn fall(places: &mut [u32], gone: u32)
     ensures { places.new ≡ map (fallen gone) places.old }
 {
     for place in places.iter_mut() {
@@ -212,10 +268,10 @@ fn fallen(gone: u32, place: u32) -> u32
     if gone < place { place - 1 } else { place }
 }
 
-/// Puts the places of all rows into order by start.
+/// Puts places of rows into order by start.
 fn sort_by_start(rows: &SpanRows, by_start: &mut [u32])
-    requires all { IsPermutation (range_with_len 0 (length rows.now.kept)) by_start.old }
-    ensures all { IsPermutation (range_with_len 0 (length rows.now.kept)) by_start.new }
+    requires placed { IsPlaced (length rows.now.kept) by_start.old }
+    ensures placed { IsPlaced (length rows.now.kept) by_start.new }
     ensures rising { IsNonDecreasingBy (kept_start rows.now.kept) by_start.new }
 {
     by_start.sort_unstable_by_key(|&place| start_at(rows, place));
@@ -243,7 +299,7 @@ fn end_at(rows: &SpanRows, place: u32) -> u64
     }
 }
 
-/// Writes the greatest ends of all slices, from the leaves up, and gives that of the whole, or 0 where there is none.
+/// Writes the greatest end of each slice at its middle, from the leaves up.
 fn raise(rows: &SpanRows, by_start: &[u32], tops: &mut [u64])
     requires long { length tops.old ≡ length by_start.now }
     ensures topped { Topped (map (kept_end rows.now.kept) by_start.now) tops.new }

@@ -6,23 +6,23 @@ ghost use Rattle.std.specs.List.Sorted.{IsNonDecreasingBy, IsPermutation};
 ghost use Rattle.edit_base.specs.declared.rows.Pick.TheVariants.{Watches};
 ghost use Rattle.edit_base.specs.declared.rows.Pick.TheVariants as pick;
 ghost use Rattle.interval_tree.specs.declared.walk.Asked.TheVariants.{Over};
-ghost use Rattle.edit_model.specs.Over.{next_edge, over};
+ghost use Rattle.edit_model.specs.Over.{least, next_edge, over};
 ghost use Rattle.edit_model.specs.Rows.{IsAtOrder, spans_in};
 ghost use Rattle.span_table.specs.Offsets.{bound};
 ghost use Rattle.span_table.specs.Table.{spans_of};
 ghost use Rattle.interval_tree.specs.Answers.{IsForward, IsWithin, first_emptied, orders_of, touching};
 ghost use Rattle.interval_tree.specs.Kinds.{seats_of};
 ghost use Rattle.interval_tree.specs.Order.{rank_of};
-ghost use Rattle.interval_tree.specs.Tree.{IsIndex};
-ghost use Rattle.interval_tree.specs.Walk.{found};
+ghost use Rattle.interval_tree.specs.Tree.{IsIndex, apart};
+ghost use Rattle.interval_tree.specs.Walk.{IsBound, emptied, found};
 
-use crate::walk::{Asked, Query, Removal, bound_of, least_emptied, seen, visit};
+use crate::walk::{Asked, Query, Removal, bound_of, keep, least_emptied, visit};
 use edit_base::{NoMemory, Pick, SpanRow, Steps};
-use span_flags::{lies_over, priority_of_word};
+use span_flags::{is_emptied, lies_over, priority_of_word};
 use span_table::SpanRows;
 use std::sync::ledger::Ledger;
 
-/// The rows with their order by start and the greatest ends over it.
+/// The rows with their order by start and the greatest ends over it. The last row may stand apart.
 #[derive(Clone, Copy)]
 pub struct Tree<'a> {
     pub rows: &'a SpanRows,
@@ -133,7 +133,7 @@ fn take_seat<L: Ledger>(
     Ok(())
 }
 
-/// The rows that touch a range, in order by start. `out` is cleared first, and empty where there is no memory.
+/// The rows that touch a range, in no order that is told. `out` is cleared first, and empty where there is no memory.
 pub fn touching<L: Ledger>(
     tree: Tree,
     start: u32,
@@ -168,8 +168,27 @@ pub fn first_emptied(tree: Tree, start: u32, end: u32, grown: u32) -> Option<u32
         grown,
         bound: bound_of(tree.rows.gap(), tree.rows.room(), start),
     };
-    let first = least_emptied(tree.rows, tree.by_start, tree.tops, &removal, count);
+    let last = apart_emptied(tree, &removal);
+    let first = least_emptied(tree.rows, tree.by_start, tree.tops, &removal, last);
     if first < count { Some(first) } else { None }
+}
+
+/// The place of the last row where it stands apart and is emptied, else the number of rows.
+fn apart_emptied(tree: Tree, removal: &Removal) -> u32
+    requires index { IsIndex tree.rows.now.kept tree.by_start.now tree.tops.now }
+    ensures { result ≡ least (length tree.entry.rows.now.kept) (emptied removal.now.start removal.now.end removal.now.grown
+        (spans_of tree.entry.rows.now) (apart (length tree.entry.rows.now.kept) tree.entry.by_start.now)) }
+{
+    let count = tree.rows.count();
+    if tree.by_start.len() >= count as usize {
+        return count;
+    }
+    let row = tree.rows.read(count - 1);
+    if is_emptied(&row, removal.start, removal.end, removal.grown) {
+        count - 1
+    } else {
+        count
+    }
 }
 
 /// The least place behind `start` and below `limit` where a span starts or ends, else `limit`.
@@ -179,7 +198,7 @@ pub fn next_edge(rows: &SpanRows, start: u32, limit: u32) -> u32
 {
     let mut least = limit;
     for place in 0..rows.count() {
-        let row = seen(rows, place);
+        let row = rows.read(place);
         let edge = nearer(row.start, start, least);
         least = nearer(row.end, start, edge);
     }
@@ -197,8 +216,8 @@ fn nearer(edge: u32, after: u32, least: u32) -> u32
     }
 }
 
-/// The rows that answer what is asked of a range, in order by start. `out` is cleared first, and empty where there is
-/// no memory.
+/// The rows that answer what is asked of a range: the last one first where it stands apart, and the others in order by
+/// start. `out` is cleared first, and empty where there is no memory.
 fn ask<L: Ledger>(
     tree: Tree,
     start: u32,
@@ -208,8 +227,8 @@ fn ask<L: Ledger>(
     steps: &mut Steps<L>,
 ) -> Result<(), NoMemory>
     requires { IsIndex tree.rows.now.kept tree.by_start.now tree.tops.now }
-    ensures ok { OnOk result
-        (out.new.items ≡ found asked start end (spans_of tree.entry.rows.now) tree.entry.by_start.now) }
+    ensures ok { OnOk result (out.new.items ≡ found asked start end (spans_of tree.entry.rows.now)
+        (apart (length tree.entry.rows.now.kept) tree.entry.by_start.now ++ tree.entry.by_start.now)) }
     ensures err { OnErr result (out.new.items ≡ []) }
     ensures more { steps.old ≤ steps.new }
     ensures ticks { IsWithin start end (spans_of tree.entry.rows.now) (steps.new - steps.old) }
@@ -226,10 +245,57 @@ fn ask<L: Ledger>(
         bound: bound_of(tree.rows.gap(), tree.rows.room(), start),
         asked,
     };
-    match visit(tree.rows, tree.by_start, tree.tops, &query, out, steps) {
+    match gather(tree, &query, out, steps) {
         Ok(()) => Ok(()),
         Err(error) => Err(give_up(error, out)),
     }
+}
+
+/// Pushes the rows that answer a query: the last one where it stands apart, and then the others.
+fn gather<L: Ledger>(
+    tree: Tree,
+    query: &Query,
+    out: &mut Vec<SpanRow>,
+    steps: &mut Steps<L>,
+) -> Result<(), NoMemory>
+    requires index { IsIndex tree.rows.now.kept tree.by_start.now tree.tops.now }
+    requires bound { IsBound tree.rows.now.gap tree.rows.now.room query.now.start query.now.bound }
+    ensures ok { OnOk result (out.new.items ≡ out.old.items
+        ++ found query.now.asked query.now.start query.now.end (spans_of tree.entry.rows.now)
+        (apart (length tree.entry.rows.now.kept) tree.entry.by_start.now ++ tree.entry.by_start.now)) }
+    ensures more { steps.old ≤ steps.new }
+    ensures ticks { IsWithin query.now.start query.now.end (spans_of tree.entry.rows.now) (steps.new - steps.old) }
+    ensures room { length out.old.items + length tree.entry.rows.now.kept ≤ vec_capacity out.old → IsOk result }
+    ensures capacity { vec_capacity out.old ≤ vec_capacity out.new }
+{
+    // What is known of the rows comes with their number.
+    let _count = tree.rows.count();
+    take_apart(tree, query, out, steps)?;
+    visit(tree.rows, tree.by_start, tree.tops, query, out, steps)
+}
+
+/// Reads the last row where it stands apart, and pushes it where it answers a query.
+fn take_apart<L: Ledger>(
+    tree: Tree,
+    query: &Query,
+    out: &mut Vec<SpanRow>,
+    steps: &mut Steps<L>,
+) -> Result<(), NoMemory>
+    requires index { IsIndex tree.rows.now.kept tree.by_start.now tree.tops.now }
+    ensures ok { OnOk result (out.new.items ≡ out.old.items
+        ++ found query.now.asked query.now.start query.now.end (spans_of tree.entry.rows.now)
+        (apart (length tree.entry.rows.now.kept) tree.entry.by_start.now)) }
+    ensures ticks { steps.new
+        ≡ steps.old + length (apart (length tree.entry.rows.now.kept) tree.entry.by_start.now) }
+    ensures room { length out.old.items + length tree.entry.rows.now.kept ≤ vec_capacity out.old → IsOk result }
+    ensures capacity { vec_capacity out.old ≤ vec_capacity out.new }
+{
+    let count = tree.rows.count();
+    if tree.by_start.len() >= count as usize {
+        return Ok(());
+    }
+    let row = tree.rows.row(count - 1, steps);
+    keep(&row, query, out)
 }
 
 /// Nothing is left of an answer that there is no memory for.

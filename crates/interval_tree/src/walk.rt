@@ -6,11 +6,11 @@ ghost use Rattle.edit_model.specs.Over.{least};
 ghost use Rattle.edit_model.specs.Replaced.{is_emptied};
 ghost use Rattle.edit_model.specs.Rows.{span_of};
 ghost use Rattle.interval_tree.specs.Answers.{IsForward};
-ghost use Rattle.span_table.specs.Table.{span_at, spans_of};
+ghost use Rattle.span_table.specs.Table.{spans_of};
 ghost use Rattle.interval_tree.specs.Walk.{IsBound, IsBranch, IsWalk, answers, emptied, found};
 
 use edit_base::{NoMemory, Pick, SpanRow, Steps};
-use span_flags::{is_picked, is_point_mark, kind_of_word, lies_over, touches};
+use span_flags::{is_emptied, is_picked, lies_over, touches};
 use span_table::SpanRows;
 use std::sync::ledger::Ledger;
 
@@ -91,7 +91,7 @@ pub fn visit<L: Ledger>(
 }
 
 /// Pushes a row that answers a query.
-fn keep(row: &SpanRow, query: &Query, out: &mut Vec<SpanRow>) -> Result<(), NoMemory>
+pub fn keep(row: &SpanRow, query: &Query, out: &mut Vec<SpanRow>) -> Result<(), NoMemory>
     ensures ok { OnOk result (out.new.items ≡ out.old.items
         ++ (if answers query.now.asked query.now.start query.now.end (span_of row.now) then row.now ∷ [] else [])) }
     ensures room { length out.old.items < vec_capacity out.old → IsOk result }
@@ -144,7 +144,7 @@ pub fn least_emptied(
         return best;
     }
     let place = by_start[middle];
-    let row = seen(rows, place);
+    let row = rows.read(place);
     let first = least_emptied(
         rows,
         places_before(by_start, middle),
@@ -170,31 +170,11 @@ fn nearer(row: &SpanRow, place: u32, removal: &Removal, best: u32) -> u32
     ensures { result ≡ least best
         (if is_emptied removal.now.start removal.now.end removal.now.grown (span_of row.now) then place ∷ [] else []) }
 {
-    if is_emptied(row, removal) {
+    if is_emptied(row, removal.start, removal.end, removal.grown) {
         place.min(best)
     } else {
         best
     }
-}
-
-/// Whether a row is emptied.
-pub fn is_emptied(row: &SpanRow, removal: &Removal) -> bool
-    ensures { result ≡ is_emptied removal.now.start removal.now.end removal.now.grown (span_of row.now) }
-{
-    is_point_mark(kind_of_word(row.flags))
-        && removal.start < removal.end
-        && removal.start <= row.start
-        && row.end <= removal.end
-        && (removal.grown == 0 || removal.start < row.start || row.end < removal.end)
-}
-
-/// The row at a place.
-pub fn seen(rows: &SpanRows, place: u32) -> SpanRow
-    requires { place < length rows.now.kept }
-    ensures { span_of result ≡ span_at (spans_of rows.now) place }
-{
-    rows.kept(place)
-        .seen(rows.gap(), rows.room(), u64::from(place))
 }
 
 // ---- slices

@@ -13,7 +13,8 @@ use Rattle.edit_model.specs.Replaced.{moved_span}
 use Rattle.edit_model.specs.WellFormed.{IsSpanOver}
 use Rattle.span_table.specs.Offsets.{bound, closed, ends_behind, pushed, starts_behind, IsClear}
 use Rattle.span_table.specs.Table.{HasRoomFor, IsClearOf, closed_span, pushed_span}
-use Rattle.moved_rows.specs.Moving.{IsInOrder, IsSpanWithin, cleared, cleared_span, landed, landed_span}
+use Rattle.interval_tree.specs.Answers.{IsForward}
+use Rattle.moved_rows.specs.Moving.{IsSpanWithin, cleared, cleared_span, landed, landed_span}
 
 -- ---- one end
 
@@ -47,13 +48,13 @@ cleared_fits s e n last false x order within lies fits = grind (arith, nat_tests
 -- ---- a span
 
 -- a span that doesn't touch the range has both ends outside
-start_away : (s e : ℕ) (span : Span) → touches s e span ≡ false → IsInOrder span → Away s e span.start
+start_away : (s e : ℕ) (span : Span) → touches s e span ≡ false → IsForward span → Away s e span.start
 start_away s e span apart order = elim (and_cases _ _ apart) [
   | inl past ↦ behind (leb-false span.start e past)
   | inr early ↦ before (omega (arith, leb-false s span.end early, order))
 ]
 
-end_away : (s e : ℕ) (span : Span) → touches s e span ≡ false → IsInOrder span → Away s e span.end
+end_away : (s e : ℕ) (span : Span) → touches s e span ≡ false → IsForward span → Away s e span.end
 end_away s e span apart order = elim (and_cases _ _ apart) [
   | inl past ↦ let late = leb-false span.start e past in behind (omega (arith, late, order))
   | inr early ↦ before (leb-false s span.end early)
@@ -64,12 +65,12 @@ same_ends : (span : Span) (start start2 end end2 : ℕ) → start ≡ start2 →
     (record { id = span.id; start = start2; end = end2; flags = span.flags; what = span.what })
 same_ends span start start2 end end2 starts ends = rw (starts, ends) refl
 
-pub cleared_apart : (s e : ℕ) (span : Span) → touches s e span ≡ false → IsInOrder span → span ≡ cleared_span s e span
+pub cleared_apart : (s e : ℕ) (span : Span) → touches s e span ≡ false → IsForward span → span ≡ cleared_span s e span
 cleared_apart s e span apart order =
     same_ends span _ _ _ _ (sym (cleared_away s e (starts_behind span.flags) span.start (start_away s e span apart order)))
     (sym (cleared_away s e (ends_behind span.flags) span.end (end_away s e span apart order)))
 
-pub landed_apart : (s e n : ℕ) (units : List ℕ) (span : Span) → s ≤ e → touches s e span ≡ false → IsInOrder span
+pub landed_apart : (s e n : ℕ) (units : List ℕ) (span : Span) → s ≤ e → touches s e span ≡ false → IsForward span
     → landed_span s e n span ≡ moved_span s e n units span
 landed_apart s e n units span order apart ordered =
     same_ends span _ _ _ _
@@ -107,7 +108,7 @@ pub all_landed : (s e n : ℕ) (spans : List Span)
 all_landed s e n [] = refl
 all_landed s e n (span ∷ spans) = ap (λ rest. landed_span s e n span ∷ rest) (all_landed s e n spans)
 
-pub all_in_order : (last : ℕ) (spans : List Span) → All (IsSpanWithin last) spans → All IsInOrder spans
+pub all_in_order : (last : ℕ) (spans : List Span) → All (IsSpanWithin last) spans → All IsForward spans
 all_in_order last spans over k d h = (over k d h).ordered
 
 -- the spans of a text that is well formed

@@ -13,9 +13,9 @@ use Rattle.edit_base.specs.declared.rows.SpanRow.{SpanRow}
 use Rattle.edit_model.specs.State.{Span}
 use Rattle.edit_model.specs.Over.{touches}
 use Rattle.edit_model.specs.Rows.{IsAtOrder, span_of}
-use Rattle.interval_tree.specs.Answers.{orders_of, touching}
+use Rattle.interval_tree.specs.Answers.{IsForward, orders_of, touching}
 use Rattle.span_table.specs.Table.{no_span, span_at}
-use Rattle.moved_rows.specs.Moving.{AreTouched, IsInOrder}
+use Rattle.moved_rows.specs.Moving.{AreTouched}
 
 -- ---- the rows that touch
 
@@ -116,8 +116,8 @@ module _ (g f : Span → Span) (s e : ℕ) (before : List Span) (rows : List Spa
         ];
       }
 
-  pub puts_all : (now : List Span) → Puts g f s e before now rows (length rows) → All IsInOrder before
-      → ((span : Span) → touches s e span ≡ false → IsInOrder span → g span ≡ f span) → now ≡ map f before
+  pub puts_all : (now : List Span) → Puts g f s e before now rows (length rows) → All IsForward before
+      → ((span : Span) → touches s e span ≡ false → IsForward span → g span ≡ f span) → now ≡ map f before
   puts_all now puts ordered agree =
       same_lists now (map f before) (puts.long ∙ sym (length-map before f)) (λ i d h.
       let lies : i < length before = omega (arith, h, puts.long) in

@@ -6,7 +6,7 @@ use Rattle.edit_model.specs.Flags.{is_paragraph, kind_of}
 use Rattle.edit_model.specs.State.{Span}
 use Rattle.edit_model.specs.Over.{touches}
 use Rattle.edit_model.specs.Rows.{span_of}
-use Rattle.interval_tree.specs.Answers.{orders_of}
+use Rattle.interval_tree.specs.Answers.{IsForward, orders_of}
 use Rattle.span_table.specs.Offsets.{closed, ends_behind, pushed, starts_behind}
 use Rattle.span_table.specs.Table.{span_at}
 
@@ -36,13 +36,9 @@ landed_span s e n span = record {
   what = span.what;
 }
 
--- its places are in order
-abbrev pub IsInOrder : Span → Type 0
-IsInOrder span = span.start ≤ span.end
-
--- they lie in a text of this length, too
+-- it ends no earlier than it starts, and in a text of this length
 pub record IsSpanWithin (last : ℕ) (span : Span) : Type 0 where
-  pub ordered : IsInOrder span
+  pub ordered : IsForward span
   pub within : span.end ≤ last
 
 -- these rows are those that touch a range, and each is the span at its order

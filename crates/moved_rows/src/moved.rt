@@ -14,7 +14,7 @@ ghost use Rattle.moved_rows.specs.Iterated.{shifts_left};
 
 use edit_base::{NoMemory, SpanRow, Steps, What};
 use interval_tree::SpanIndex;
-use span_table::{KeptRow, SpanRows};
+use span_table::{KeptRow, SpanRows, push_within};
 use std::alloc::Global;
 use std::marker::Model;
 use std::sync::ledger::Ledger;
@@ -562,13 +562,4 @@ fn set_fewer<L: Ledger>(index: &mut SpanIndex, rows: &[SpanRow], steps: &mut Ste
 {
     let _count = index.rows().count();
     let _ = index.set_rows(rows, steps);
-}
-
-/// Adds a note, for which there is room.
-fn push_within(olds: &mut Vec<OldRow>, old: OldRow)
-    requires room { vec_len olds.old < vec_capacity olds.old }
-    ensures items { olds.new.items ≡ olds.old.items ++ old ∷ [] }
-    ensures capacity { vec_capacity olds.old ≤ vec_capacity olds.new }
-{
-    let _ = olds.push(old);
 }

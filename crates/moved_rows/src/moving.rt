@@ -6,17 +6,18 @@ ghost use Rattle.std.specs.List.Sorted.{IsPermutation};
 ghost use Rattle.edit_model.specs.Boundaries.{next_boundary};
 ghost use Rattle.edit_model.specs.Replaced.{moved_span};
 ghost use Rattle.edit_model.specs.Rows.{IsAtOrder, span_of, spans_in};
-ghost use Rattle.interval_tree.specs.Answers.{orders_of, touching};
-ghost use Rattle.span_table.specs.Offsets.{bound, is_point};
+ghost use Rattle.interval_tree.specs.Answers.{IsForward, orders_of, touching};
+ghost use Rattle.span_table.specs.Offsets.{bound};
 ghost use Rattle.span_table.specs.Table.{span_at, spans_of};
 ghost use Rattle.moved_rows.specs.Moves.{IsBegun, moved_of, moved_shifts};
-ghost use Rattle.moved_rows.specs.Moving.{AreTouched, IsInOrder, IsSpanWithin, cleared, cleared_span, is_appended, landed, landed_span};
+ghost use Rattle.moved_rows.specs.Moving.{AreTouched, IsSpanWithin, cleared, cleared_span, is_appended, landed, landed_span};
 ghost use Rattle.text_cut.specs.Halves.{joined};
 ghost use Rattle.text_cut.specs.Pulled.{has_pulled_end, pulls_one};
 
 use crate::moved::MovedRows;
 use edit_base::SpanRow;
-use span_flags::{EndKind, end_of_kind, kind_of_word, start_of};
+use span_flags::{end_of_kind, kind_of_word, start_of};
+use span_table::is_point;
 use text_cut::{Cut, Halves};
 
 /// Every row goes where the rule for its ends takes it when the range becomes other units, and the gap from the end of
@@ -73,7 +74,7 @@ pub fn insert_units(moved: &mut MovedRows, grown: u32, units: &Halves)
 /// Each end that stands in the range goes to the end of the range on its side.
 fn clear_touched(moved: &mut MovedRows, touched: &[SpanRow], start: u32, end: u32)
     requires touched { AreTouched start end moved.old.before touched.now }
-    requires ordered { All IsInOrder moved.old.before }
+    requires ordered { All IsForward moved.old.before }
     requires spans { spans_of moved.old.rows ≡ moved.old.before }
     ensures spans { spans_of moved.new.rows ≡ map (cleared_span start end) moved.old.before }
     ensures gap { moved.new.rows.gap ≡ moved.old.rows.gap }
@@ -235,10 +236,4 @@ fn landed(cut: &Cut, points: bool, place: u32) -> u32
     } else {
         drawn
     }
-}
-
-fn is_point(kind: EndKind) -> bool
-    ensures { result ≡ is_point kind }
-{
-    matches!(kind, EndKind::Point)
 }

@@ -1,5 +1,5 @@
 -- Incoming spans, one by one.
-use Rattle.std.proofs.Common.{◌≡◌, ℕ, ◌+◌, ◌<◌, ◌≤◌, ◌&&◌, ◌||◌, Bool, true, false, not, cond, List, [], ◌∷◌, ◌++◌, map, take, drop, length, get_or, refl, sym, ap, ◌∙◌, arith}
+use Rattle.std.proofs.Common.{◌≡◌, ℕ, ◌+◌, ◌<◌, ◌≤◌, ◌&&◌, ◌||◌, Bool, true, false, not, cond, List, [], ◌∷◌, ◌++◌, map, take, drop, length, get_or, refl, sym, ap, ◌∙◌, arith, filter}
 use Rattle.std.specs.List.{list_any}
 use Rattle.std.proofs.lemmas.List.Filters.{length-filter_both}
 use Rattle.std.proofs.lemmas.List.{length-map, length-append, map-append, map_more, take-append-drop}
@@ -16,7 +16,29 @@ use Rattle.text_cut.specs.Halves.{joined}
 use Rattle.text_cut.specs.declared.cut.Cut.{Cut}
 use Rattle.edit_model.specs.Rows.{spans_in}
 use Rattle.replace_engine.specs.Arrivals.{arrivals, placed, stayed, text_then}
-use Rattle.replace_engine.proofs.Lists.{list_any-filter}
+
+-- ---- tests of what is kept
+
+module _ {X : Type 0} (test keep : X → Bool) where
+  any_where : (kept : Bool) (x : X) (others : List X) (rest : Bool) → list_any test others ≡ rest
+      → list_any test (cond kept (x ∷ others) others) ≡ ((test x && kept) || rest)
+  any_where true x others rest is = both (test x) is
+    where
+      both : (first : Bool) → list_any test others ≡ rest → (first || list_any test others) ≡ ((first && true) || rest)
+      both true is = refl
+      both false is = is
+  any_where false x others rest is = none (test x) is
+    where
+      none : (first : Bool) → list_any test others ≡ rest → list_any test others ≡ ((first && false) || rest)
+      none true is = is
+      none false is = is
+
+  -- some element that is kept passes
+  pub list_any-filter : (xs : List X) → list_any test (filter keep xs) ≡ list_any (λ x. test x && keep x) xs
+  list_any-filter [] = refl
+  list_any-filter (x ∷ xs) = any_where (keep x) x (filter keep xs) (list_any (λ y. test y && keep y) xs) (list_any-filter xs)
+
+-- ---- incoming spans
 
 module _ (cut : Cut) (attached : List Span) where
   -- one more incoming span

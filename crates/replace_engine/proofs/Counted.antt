@@ -1,16 +1,11 @@
 -- Spans that are counted one by one, as rows are read.
-use Rattle.std.proofs.Common.{◌≡◌, ℕ, ◌+◌, ◌<◌, Bool, true, false, not, cond, List, ◌++◌, take, length, refl, sym, ap, ◌∙◌, arith}
+use Rattle.std.proofs.Common.{◌≡◌, ℕ, ◌+◌, ◌<◌, Bool, true, false, not, cond, List, ◌++◌, take, length, sym, ap, ◌∙◌, arith}
 use Rattle.std.specs.List.{filter}
 use Rattle.std.proofs.lemmas.List.{length-append, length-map}
 use Rattle.std.proofs.lemmas.List.Filters.{length-filter_more}
 use Rattle.edit_model.specs.State.{Span}
 use Rattle.span_table.specs.Table.{Rows, no_span, seen, span_at, spans_of}
 use Rattle.moved_rows.specs.Moves.{IsStill, Moves}
-
--- rows that are kept alike round the same gap are seen alike
-pub spans_seen : (rows others : Rows) → rows.kept ≡ others.kept → rows.gap ≡ others.gap → rows.room ≡ others.room
-    → spans_of rows ≡ spans_of others
-spans_seen rows others kept gap room = rw (kept, gap, room) refl
 
 -- one more span that fails the test is counted
 module _ (test : Span → Bool) (spans : List Span) (i : ℕ) (below : i < length spans) where

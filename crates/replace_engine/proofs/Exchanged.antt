@@ -9,10 +9,10 @@ use Rattle.edit_model.specs.Replaced.{spliced, replaced, came_spans}
 use Rattle.edit_model.proofs.Newcomers.{length-newcomers}
 use Rattle.text_cut.specs.Coming.{all_coming}
 use Rattle.text_cut.specs.Halves.{joined}
-use Rattle.replace_engine.specs.declared.changes.Change.{Change}
+use Rattle.span_changes.specs.declared.changes.Change.{Change}
 use Rattle.replace_engine.specs.declared.exchanging.Exchange.{Exchange}
 use Rattle.replace_engine.specs.Exchange.{comes, stays}
-use Rattle.replace_engine.specs.Rows.{KeepsRoom, span_room}
+use Rattle.span_changes.specs.Rows.{KeepsRoom, span_room}
 use Rattle.replace_engine.proofs.Sound.{room_grows}
 
 module _ (state : State) (s e : ℕ) (incoming : Incoming) (asked : Exchange) (spans : List Span)

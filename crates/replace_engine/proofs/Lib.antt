@@ -1,7 +1,4 @@
-pub mod Lists
 pub mod Arrived
-pub mod Spans
-pub mod MovedLaws
 pub mod Sound
 pub mod Cuts
 pub mod Exchanged
@@ -10,6 +7,4 @@ pub mod Told
 pub mod Counted
 pub mod Tables
 pub mod Passing
-pub mod MovingParted
-pub mod MovingPlain
 pub mod MovingNone

@@ -7,7 +7,7 @@ use Rattle.edit_model.specs.State.{Span}
 use Rattle.edit_model.specs.Replaced.{emptied_spans, is_emptied, kept_spans}
 use Rattle.edit_model.proofs.SpanLists.{all_each, all_fail}
 use Rattle.interval_tree.specs.Answers.{first_emptied}
-use Rattle.replace_engine.proofs.Lists.{first_any}
+use Rattle.interval_tree.proofs.IdsAttached.{first_any}
 
 empty_test : (some : Bool) (start end first last : ℕ) (rest : Bool) → start ≡ end
     → (some && ltb start end && leb start first && leb last end && rest) ≡ false

@@ -1,6 +1,5 @@
 pub mod Seen
 pub mod Rows
-pub mod Changes
 pub mod Arrivals
 pub mod Lines
 pub mod Moved

@@ -11,14 +11,12 @@ ghost use Rattle.moved_rows.specs.Moves.{IsStill};
 ghost use Rattle.text_cut.specs.Coming.{all_coming};
 ghost use Rattle.replace_engine.specs.Arrivals.{IsAmong, arrivals, placed, stayed, text_then};
 
-use crate::judging::is_attached;
-use crate::moving::is_emptied_by;
-use crate::reading::row_at;
-use crate::room::push_within;
 use edit_base::{Incoming, Limits, NewSpan, SpanRow};
 use interval_tree::SpanIndex;
 use moved_rows::MovedRows;
+use span_changes::is_attached;
 use span_flags::{Kind, kind_of_word};
+use span_table::push_within;
 use text_cut::{Coming, Cut};
 
 /// The spans that come and are attached stand behind the rows, one by one, and are told of.
@@ -202,7 +200,7 @@ pub fn count_kept(rows: &SpanIndex, cut: &Cut) -> usize
 {
     let mut count = 0;
     for i in 0..rows.rows().count() {
-        if !is_emptied(&row_at(rows.rows(), i), cut) {
+        if !is_emptied(&rows.rows().read(i), cut) {
             count += 1;
         }
     }
@@ -246,7 +244,7 @@ fn stays(rows: &SpanIndex, cut: &Cut, id: u32) -> bool
     ensures { result ≡ is_attached id (stayed cut.now (spans_of rows.now)) }
 {
     match rows.find(id) {
-        Some(at) => !is_emptied(&row_at(rows.rows(), at), cut),
+        Some(at) => !is_emptied(&rows.rows().read(at), cut),
         None => false,
     }
 }
@@ -263,5 +261,5 @@ fn is_brought(before: &[NewSpan], cut: &Cut, id: u32) -> bool
 fn is_emptied(row: &SpanRow, cut: &Cut) -> bool
     ensures { result ≡ is_emptied cut.now.start cut.now.end cut.now.grown (span_of row.now) }
 {
-    is_emptied_by(row, cut.start, cut.end, cut.grown)
+    span_flags::is_emptied(row, cut.start, cut.end, cut.grown)
 }

@@ -7,14 +7,15 @@ ghost use Rattle.edit_model.specs.Replaced.{spliced_length};
 ghost use Rattle.edit_model.specs.WellFormed.{IsWellFormed};
 ghost use Rattle.text_cut.specs.Halves.{joined};
 ghost use Rattle.span_table.specs.Table.{spans_of};
-ghost use Rattle.replace_engine.specs.Changes.{effect_of};
+ghost use Rattle.span_changes.specs.Changes.{effect_of};
 ghost use Rattle.replace_engine.specs.Exchange.{comes, stays};
-ghost use Rattle.replace_engine.specs.Rows.{HasRoom, IsTold, KeepsRoom, state_with, whole};
+ghost use Rattle.replace_engine.specs.Rows.{whole};
+ghost use Rattle.span_changes.specs.Rows.{HasRoom, IsTold, KeepsRoom, state_with};
 
 use crate::arriving::attach_coming;
-use crate::changes::Change;
 use crate::moving::{drop_emptied, move_spans, touch};
 use edit_base::{SpanRow, Steps};
+use span_changes::Change;
 use std::sync::ledger::Ledger;
 use text_cut::{Coming, Cut, Halves, boundary_behind};
 

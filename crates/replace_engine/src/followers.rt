@@ -2,14 +2,14 @@
 
 ghost use Rattle.std.specs.Prelude.{◌≡◌, ◌++◌, [], ◌∷◌, List, IsOk, OnOk};
 ghost use Rattle.edit_model.specs.State.{State};
-ghost use Rattle.replace_engine.specs.Changes.{effect_of};
+ghost use Rattle.span_changes.specs.Changes.{effect_of};
 ghost use Rattle.edit_model.specs.Changed.{Effect};
 ghost use Rattle.edit_model.specs.Faces.{Ground, no_ground};
 ghost use Rattle.edit_model.specs.Leads.{LeadsTo};
 
-use crate::changes::Change;
 use crate::text::SpannedText;
 use edit_base::{NoMemory, Steps};
+use span_changes::Change;
 use std::sync::ledger::Ledger;
 
 /// Follows the states of a text.

@@ -13,7 +13,7 @@ ghost use Rattle.edit_model.specs.Verdicts.{first_of, is_reserved, judged, lacks
 ghost use Rattle.edit_model.specs.Over.{is_watch};
 ghost use Rattle.edit_model.specs.WellFormed.{is_kept_what};
 ghost use Rattle.span_table.specs.Table.{spans_of};
-ghost use Rattle.replace_engine.specs.Rows.{state_with};
+ghost use Rattle.span_changes.specs.Rows.{state_with};
 ghost use Rattle.edit_base.specs.declared.bounds.TheConstants.Limits.{SPANS};
 ghost use Rattle.text_cut.specs.Halves.{joined};
 ghost use Rattle.text_cut.specs.Coming.{all_coming};
@@ -21,10 +21,9 @@ ghost use Rattle.replace_engine.specs.Arrivals.{stayed};
 ghost use Rattle.replace_engine.specs.Lines.{kind_lines, place_lines, replacement_lines, exchange_lines, span_lines};
 
 use crate::arriving::{count_coming, count_kept};
-use crate::places::place_of;
-use crate::reading::row_at;
 use edit_base::{Incoming, Limits, NewSpan, Refusal, SpanRow, Verdict, What};
 use interval_tree::SpanIndex;
+use span_changes::{is_attached, place_of};
 use span_flags::{flags_of, is_paragraph, is_point_mark, is_watch, kind_of_word};
 use text_cut::{Coming, Cut, Halves, coming_with, is_boundary};
 
@@ -216,7 +215,7 @@ fn judge_kind(text: &Halves, rows: &SpanIndex, asked: &AskedSpan) -> Verdict
 }
 
 /// How many spans are attached after a set of this id.
-#[tactic(auto, using(crate::proofs::Lists::lengths))]
+#[tactic(auto, using(span_changes::proofs::Lists::lengths))]
 fn span_count_after_set(rows: &SpanIndex, id: u32) -> usize
     requires { length rows.now.kept ≤ Limits.SPANS }
     ensures { result ≡ span_count_after_set (state_with [] rows.now) id }
@@ -242,13 +241,6 @@ pub fn judge_remove(rows: &SpanIndex, id: u32) -> Verdict
     Verdict::Done
 }
 
-/// Whether a span with this id is attached.
-pub fn is_attached(rows: &SpanIndex, id: u32) -> bool
-    ensures { result ≡ is_attached id (spans_of rows.now) }
-{
-    rows.find(id).is_some()
-}
-
 /// Whether this what watches, and has no slot or one that another span watches for.
 fn lacks_slot(rows: &SpanIndex, id: u32, what: What, slots: u8) -> bool
     ensures { (units : List ℕ) → result ≡ lacks_slot (state_with units rows.now) slots id what }
@@ -264,7 +256,7 @@ fn is_seat_taken(rows: &SpanIndex, id: u32, slot: u8) -> bool
     ensures { result ≡ list_any (λ span. not (has_id id span) && watches slot span.what) (spans_of rows.now) }
 {
     for i in 0..rows.rows().count() {
-        if is_other_seat(&row_at(rows.rows(), i), id, slot) {
+        if is_other_seat(&rows.rows().read(i), id, slot) {
             return true;
         }
     }

@@ -15,11 +15,11 @@ ghost use Rattle.text_cut.specs.Pulled.{pulls_one};
 ghost use Rattle.replace_engine.specs.Moved.{AreLeft, is_paragraph_span, is_plain};
 ghost use Rattle.replace_engine.specs.Rows.{whole};
 
-use crate::room::push_within;
 use edit_base::{SpanRow, Steps};
 use interval_tree::SpanIndex;
 use moved_rows::{MovedRows, insert_units, move_rows};
-use span_flags::{is_point_mark, kind_of_word};
+use span_flags::is_emptied;
+use span_table::push_within;
 use std::sync::ledger::Ledger;
 use text_cut::Cut;
 
@@ -106,22 +106,11 @@ fn part_row(
     ensures capacity { vec_capacity removed.old ≤ vec_capacity removed.new }
     ensures rest_capacity { vec_capacity rest.old ≤ vec_capacity rest.new }
 {
-    if is_emptied_by(&row, start, end, grown) {
+    if is_emptied(&row, start, end, grown) {
         push_within(removed, row);
     } else {
         push_within(rest, row);
     }
-}
-
-/// Whether the span may not be empty, and is emptied when the units from `start` to `end` become `grown` units.
-pub fn is_emptied_by(row: &SpanRow, start: u32, end: u32, grown: u32) -> bool
-    ensures { result ≡ is_emptied start end grown (span_of row.now) }
-{
-    is_point_mark(kind_of_word(row.flags))
-        && start < end
-        && start <= row.start
-        && row.end <= end
-        && (grown == 0 || start < row.start || row.end < end)
 }
 
 /// Whether the gap alone moves all ends: no unit goes, and those that come don't come behind the last one of a text in

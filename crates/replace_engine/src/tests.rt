@@ -5,13 +5,13 @@ ghost use Rattle.edit_model.specs.Brought.{IsBrought};
 ghost use Rattle.edit_model.specs.State.{State};
 ghost use Rattle.edit_model.specs.Leads.{LeadsTo};
 
-use crate::changes::Change;
 use crate::followers::{Follower, Unfollowed};
 use crate::text::SpannedText;
 use edit_base::{
     Incoming, Items, NewSpan, NoMemory, Pick, Refusal, SpanRow, Steps, Verdict, What, units_of,
 };
 use edit_model::Step;
+use span_changes::Change;
 use std::alloc::Global;
 use std::marker::Brand;
 use std::process::Abort;

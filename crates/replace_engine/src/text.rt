@@ -1,10 +1,12 @@
 //! The text with its spans.
 
-ghost use Rattle.std.specs.Prelude.{ℕ, pos, ◌≤ℤ◌, ◌≡◌, ◌≢◌, ◌≤◌, ◌<◌, ◌+◌, ◌-◌, ◌*◌, ◌++◌, [], true, false, length, slice_index, slice_get, Some, IfOk, OnOk, OnErr, IsOk};
+ghost use Rattle.std.specs.Prelude.{ℕ, pos, ◌≤ℤ◌, ◌≡◌, ◌≢◌, ◌≤◌, ◌<◌, ◌+◌, ◌-◌, ◌*◌, ◌++◌, [], true, false, length, slice_index, slice_get, Some, is_some, IfOk, OnOk, OnErr, IsOk};
 ghost use Rattle.std.specs.List.{All};
 ghost use Rattle.edit_base.specs.declared.verdicts.Refusal.TheVariants.{SpansFull};
 ghost use Rattle.edit_base.specs.declared.verdicts.Verdict.TheVariants.{Done, Refused};
-ghost use Rattle.edit_model.specs.declared.steps.Step.TheVariants.{Replace, Set, Remove};
+ghost use Rattle.edit_model.specs.declared.steps.Step.TheVariants.{Replace, Set, Remove, Select, Deselect, Drop, Mark};
+ghost use Rattle.edit_model.specs.Selection.{has_region, has_selection, region, selection};
+ghost use Rattle.span_changes.specs.Gone.{step_of};
 ghost use Rattle.edit_model.specs.State.{empty_state, place, text_end};
 ghost use Rattle.edit_model.specs.Attached.{is_attached};
 ghost use Rattle.edit_model.specs.WellFormed.{IsWellFormed, IsSeated};
@@ -14,28 +16,28 @@ ghost use Rattle.edit_model.specs.Replaced.{replaced, came_spans, spliced_length
 ghost use Rattle.edit_model.specs.Rows.{span_of};
 ghost use Rattle.edit_model.specs.Changed.{no_effect, replaced_effect, on_done, stepped, change_of, state_after, effect_after};
 ghost use Rattle.interval_tree.specs.Answers.{IsWithin};
-ghost use Rattle.replace_engine.specs.Changes.{effect_of};
+ghost use Rattle.span_changes.specs.Changes.{effect_of};
 ghost use Rattle.moved_rows.specs.Moves.{ArePlaced};
 ghost use Rattle.edit_model.specs.Over.{next_edge, over};
 ghost use Rattle.edit_model.specs.Rows.{spans_in};
 ghost use Rattle.span_table.specs.Table.{spans_of};
 ghost use Rattle.text_cut.specs.Halves.{joined};
-ghost use Rattle.replace_engine.specs.Rows.{appended_by_set};
+ghost use Rattle.replace_engine.specs.Rows.{appended_by_select, appended_by_set};
 ghost use Rattle.replace_engine.specs.Lines.{set_of};
 ghost use Rattle.replace_engine.specs.Work.{replaced_within};
 ghost use Rattle.std.specs.Int.{abs_diff};
 
 use crate::arriving::count_spans_then;
-use crate::changes::Change;
 use crate::exchanging::{Exchange, exchange_spans};
 use crate::judging::{AskedSpan, judge_remove, judge_replace, judge_set};
-use crate::places::place_of;
-use crate::reading::row_at;
-use crate::setting::{remove_row, set_row};
 use edit_base::{Incoming, Limits, NoMemory, Pick, SpanRow, Steps, Verdict, What};
 use edit_model::Step;
 use interval_tree::SpanIndex;
 use moved_rows::MovedRows;
+use span_changes::{
+    Change, Gone, judge_deselect, judge_drop, judge_mark, judge_select, mark_row, place_of,
+    region_of, remove_row, select_rows, selection_of, set_row, take_out,
+};
 use std::alloc::Global;
 use std::marker::Model;
 use std::sync::ledger::Ledger;
@@ -58,9 +60,10 @@ pub struct SpannedText {
 
 impl Model for SpannedText {
     ghost use Rattle.std.specs.Prelude.{◌-◌, length, vec_capacity};
-    ghost use Rattle.replace_engine.specs.Changes.{effect_of};
+    ghost use Rattle.span_changes.specs.Changes.{effect_of};
     ghost use Rattle.replace_engine.specs.Seen.{Seen};
-    ghost use Rattle.replace_engine.specs.Rows.{IsSound, span_room, state_with};
+    ghost use Rattle.replace_engine.specs.Rows.{IsSound};
+    ghost use Rattle.span_changes.specs.Rows.{span_room, state_with};
 
     ghost Value = { Seen };
 
@@ -141,8 +144,26 @@ impl SpannedText {
         (text.left, text.right)
     }
 
+    /// Where the selection's start and end stand, either of which may be the lesser; none where it isn't attached.
+    pub fn selection(&self) -> Option<(u32, u32)>
+        ensures selection { result ≡ selection self.now.state.spans }
+        ensures attached { is_some result ≡ has_selection self.now.state.spans }
+        ensures well_formed { IsWellFormed self.now.state }
+    {
+        selection_of(self.change.moved.rows())
+    }
+
+    /// Where the composing region stands; none where it isn't attached.
+    pub fn composing(&self) -> Option<(u32, u32)>
+        ensures region { result ≡ region self.now.state.spans }
+        ensures attached { is_some result ≡ has_region self.now.state.spans }
+        ensures well_formed { IsWellFormed self.now.state }
+    {
+        region_of(self.change.moved.rows())
+    }
+
     /// How many spans are attached.
-    #[tactic(auto, using(crate::proofs::Lists::lengths))]
+    #[tactic(auto, using(span_changes::proofs::Lists::lengths))]
     pub fn span_count(&self) -> u32
         ensures count { result ≡ length self.now.state.spans }
         ensures limit { result ≤ Limits.SPANS }
@@ -156,7 +177,7 @@ impl SpannedText {
         ensures span { slice_get self.now.state.spans i ≡ Some (span_of result) }
         ensures order { result.order ≡ i }
     {
-        row_at(self.index().rows(), i)
+        self.index().rows().read(i)
     }
 
     /// The spans over a range that are picked, by priority, highest first, and then in order of attachment. `out` is
@@ -227,6 +248,10 @@ impl SpannedText {
                 judge_set(&halves_of(&self.units), self.index(), &asked, slots)
             }
             Step::Remove { id } => judge_remove(self.index(), *id),
+            Step::Select { start, end } => { judge_select(self.len(), self.index(), *start, *end) }
+            Step::Deselect => judge_deselect(self.index()),
+            Step::Drop => judge_drop(self.index()),
+            Step::Mark { start, end } => judge_mark(self.len(), self.index(), *start, *end),
         }
     }
 
@@ -509,5 +534,204 @@ impl SpannedText {
         ensures seated { (slots : ℕ) → IsSeated slots self.old.state.spans → IsSeated slots self.new.state.spans }
     {
         remove_row(id, &mut self.change);
+    }
+
+    /// The selection goes to these places, or comes behind all other spans, its start first, where the verdict is done;
+    /// else nothing changes. Its start may lie behind its end. Of an attached selection an end that stays where it was
+    /// isn't told of. No memory is asked for where the selection is attached, or two spare spans are left.
+    #[tactic(auto, using(crate::proofs::Done::by_verdict))]
+    pub fn select(&mut self, start: i32, end: i32) -> Result<Verdict, NoMemory>
+        ensures verdict { (slots : ℕ)
+            → IfOk result (λ verdict. verdict ≡ judged self.old.state slots (Select start end)) }
+        ensures state { (slots : ℕ)
+            → OnOk result (self.new.state ≡ state_after self.old.state slots (Select start end)) }
+        ensures effect { (slots : ℕ) → OnOk result
+            (self.new.effect ≡ effect_after self.old.state slots (Select start end) self.old.effect) }
+        ensures gap { self.new.gap ≡ self.old.gap }
+        ensures err { OnErr result ((self.new.state ≡ self.old.state) × (self.new.effect ≡ self.old.effect)) }
+        ensures attached { has_selection self.old.state.spans ≡ true → IsOk result }
+        ensures room { 2 ≤ self.old.spare_spans → IsOk result }
+        ensures spare_spans { IfOk result (λ verdict. self.old.spare_spans
+            ≤ self.new.spare_spans + on_done verdict (appended_by_select self.old.state.spans) 0) }
+        ensures spare_stays { OnErr result (self.old.spare_spans ≤ self.new.spare_spans) }
+        ensures spare_units { self.old.spare_units ≤ self.new.spare_units }
+        ensures well_formed { IsWellFormed self.new.state }
+        ensures seated { (slots : ℕ) → IsSeated slots self.old.state.spans → IsSeated slots self.new.state.spans }
+    {
+        let verdict = self.judge_selection(start, end);
+        let Verdict::Done = verdict else {
+            return Ok(verdict);
+        };
+        self.place_selection(start, end)?;
+        Ok(verdict)
+    }
+
+    /// The verdict of a select.
+    fn judge_selection(&self, start: i32, end: i32) -> Verdict
+        ensures verdict { (slots : ℕ) → result ≡ judged self.now.state slots (Select start end) }
+        ensures starts { result ≡ Done → pos 0 ≤ℤ start }
+        ensures ends { result ≡ Done → pos 0 ≤ℤ end }
+        ensures well_formed { IsWellFormed self.now.state }
+    {
+        judge_select(self.units.len(), self.change.moved.rows(), start, end)
+    }
+
+    /// Places a selection whose select is done, and the change says so. Without memory nothing changes.
+    #[tactic(auto, unfolding(edit_model::specs::Changed::stepped, edit_model::specs::Changed::change_of))]
+    fn place_selection(&mut self, start: i32, end: i32) -> Result<(), NoMemory>
+        requires done { judged self.old.state 0 (Select start end) ≡ Done }
+        requires starts { pos 0 ≤ℤ start }
+        requires ends { pos 0 ≤ℤ end }
+        ensures state { OnOk result (self.new.state ≡ stepped self.old.state (Select start end)) }
+        ensures effect { OnOk result (self.new.effect ≡ change_of self.old.state (Select start end)) }
+        ensures gap { self.new.gap ≡ self.old.gap }
+        ensures err { OnErr result ((self.new.state ≡ self.old.state) × (self.new.effect ≡ self.old.effect)) }
+        ensures attached { has_selection self.old.state.spans ≡ true → IsOk result }
+        ensures room { 2 ≤ self.old.spare_spans → IsOk result }
+        ensures spare_spans { OnOk result (self.old.spare_spans
+            ≤ self.new.spare_spans + appended_by_select self.old.state.spans) }
+        ensures spare_stays { OnErr result (self.old.spare_spans ≤ self.new.spare_spans) }
+        ensures spare_units { self.old.spare_units ≤ self.new.spare_units }
+        ensures well_formed { IsWellFormed self.new.state }
+        ensures seated { (slots : ℕ) → IsSeated slots self.old.state.spans → IsSeated slots self.new.state.spans }
+    {
+        select_rows(
+            place_of(start),
+            place_of(end),
+            &mut self.touched,
+            &mut self.change,
+        )?;
+        Ok(())
+    }
+
+    /// The selection goes, where the verdict is done; else nothing changes. No memory is asked for.
+    #[tactic(auto, using(crate::proofs::Done::by_verdict))]
+    pub fn deselect(&mut self) -> Verdict
+        ensures verdict { (slots : ℕ) → result ≡ judged self.old.state slots Deselect }
+        ensures state { (slots : ℕ) → self.new.state ≡ state_after self.old.state slots Deselect }
+        ensures effect { (slots : ℕ) → self.new.effect ≡ effect_after self.old.state slots Deselect self.old.effect }
+        ensures gap { self.new.gap ≡ self.old.gap }
+        ensures spare_units { self.old.spare_units ≤ self.new.spare_units }
+        ensures spare_spans { self.old.spare_spans ≤ self.new.spare_spans }
+        ensures well_formed { IsWellFormed self.new.state }
+        ensures seated { (slots : ℕ) → IsSeated slots self.old.state.spans → IsSeated slots self.new.state.spans }
+    {
+        let verdict = self.judge_deselection();
+        let Verdict::Done = verdict else {
+            return verdict;
+        };
+        self.take_out(Gone::Selection);
+        verdict
+    }
+
+    /// The verdict of a deselect.
+    fn judge_deselection(&self) -> Verdict
+        ensures verdict { (slots : ℕ) → result ≡ judged self.now.state slots Deselect }
+        ensures well_formed { IsWellFormed self.now.state }
+    {
+        judge_deselect(self.change.moved.rows())
+    }
+
+    /// The composing region goes, and every span whose flags word says that it is part of a composing text, where the
+    /// verdict is done; else nothing changes. No memory is asked for, and so it succeeds.
+    #[tactic(auto, using(crate::proofs::Done::by_verdict))]
+    pub fn drop_composing(&mut self) -> Result<Verdict, NoMemory>
+        ensures verdict { (slots : ℕ) → IfOk result (λ verdict. verdict ≡ judged self.old.state slots Drop) }
+        ensures state { (slots : ℕ) → self.new.state ≡ state_after self.old.state slots Drop }
+        ensures effect { (slots : ℕ) → self.new.effect ≡ effect_after self.old.state slots Drop self.old.effect }
+        ensures gap { self.new.gap ≡ self.old.gap }
+        ensures ok { IsOk result }
+        ensures spare_units { self.old.spare_units ≤ self.new.spare_units }
+        ensures spare_spans { self.old.spare_spans ≤ self.new.spare_spans }
+        ensures well_formed { IsWellFormed self.new.state }
+        ensures seated { (slots : ℕ) → IsSeated slots self.old.state.spans → IsSeated slots self.new.state.spans }
+    {
+        let verdict = self.judge_dropping();
+        let Verdict::Done = verdict else {
+            return Ok(verdict);
+        };
+        self.take_out(Gone::Composing);
+        Ok(verdict)
+    }
+
+    /// The verdict of a drop.
+    fn judge_dropping(&self) -> Verdict
+        ensures verdict { (slots : ℕ) → result ≡ judged self.now.state slots Drop }
+        ensures well_formed { IsWellFormed self.now.state }
+    {
+        judge_drop(self.change.moved.rows())
+    }
+
+    /// Removes the spans that go together, and the change says so.
+    #[tactic(auto, unfolding(edit_model::specs::Changed::stepped, edit_model::specs::Changed::change_of))]
+    fn take_out(&mut self, gone: Gone)
+        ensures state { self.new.state ≡ stepped self.old.state (step_of gone) }
+        ensures effect { self.new.effect ≡ change_of self.old.state (step_of gone) }
+        ensures gap { self.new.gap ≡ self.old.gap }
+        ensures spare_units { self.old.spare_units ≤ self.new.spare_units }
+        ensures spare_spans { self.old.spare_spans ≤ self.new.spare_spans }
+        ensures well_formed { IsWellFormed self.new.state }
+        ensures seated { (slots : ℕ) → IsSeated slots self.old.state.spans → IsSeated slots self.new.state.spans }
+    {
+        take_out(gone, &mut self.touched, &mut self.change);
+    }
+
+    /// Makes these units the composing region, behind all other spans, where the verdict is done; else nothing changes.
+    /// No memory is asked for where a spare span is left.
+    #[tactic(auto, using(crate::proofs::Done::by_verdict))]
+    pub fn mark_composing(&mut self, start: u32, end: u32) -> Result<Verdict, NoMemory>
+        requires order { start ≤ end }
+        requires within { end ≤ length self.old.state.units }
+        requires absent { has_region self.old.state.spans ≡ false }
+        ensures verdict { (slots : ℕ)
+            → IfOk result (λ verdict. verdict ≡ judged self.old.state slots (Mark start end)) }
+        ensures state { (slots : ℕ) → OnOk result (self.new.state ≡ state_after self.old.state slots (Mark start end)) }
+        ensures effect { (slots : ℕ) → OnOk result
+            (self.new.effect ≡ effect_after self.old.state slots (Mark start end) self.old.effect) }
+        ensures gap { self.new.gap ≡ self.old.gap }
+        ensures err { OnErr result ((self.new.state ≡ self.old.state) × (self.new.effect ≡ self.old.effect)) }
+        ensures room { 0 < self.old.spare_spans → IsOk result }
+        ensures spare_spans { IfOk result (λ verdict. self.old.spare_spans
+            ≤ self.new.spare_spans + on_done verdict 1 0) }
+        ensures spare_stays { OnErr result (self.old.spare_spans ≤ self.new.spare_spans) }
+        ensures spare_units { self.old.spare_units ≤ self.new.spare_units }
+        ensures well_formed { IsWellFormed self.new.state }
+        ensures seated { (slots : ℕ) → IsSeated slots self.old.state.spans → IsSeated slots self.new.state.spans }
+    {
+        let verdict = self.judge_marking(start, end);
+        let Verdict::Done = verdict else {
+            return Ok(verdict);
+        };
+        self.place_region(start, end)?;
+        Ok(verdict)
+    }
+
+    /// The verdict of a mark.
+    fn judge_marking(&self, start: u32, end: u32) -> Verdict
+        ensures verdict { (slots : ℕ) → result ≡ judged self.now.state slots (Mark start end) }
+        ensures well_formed { IsWellFormed self.now.state }
+    {
+        judge_mark(self.units.len(), self.change.moved.rows(), start, end)
+    }
+
+    /// Attaches a region whose mark is done, and the change says so. Without memory nothing changes.
+    #[tactic(auto, unfolding(edit_model::specs::Changed::stepped, edit_model::specs::Changed::change_of))]
+    fn place_region(&mut self, start: u32, end: u32) -> Result<(), NoMemory>
+        requires done { judged self.old.state 0 (Mark start end) ≡ Done }
+        requires order { start ≤ end }
+        requires absent { has_region self.old.state.spans ≡ false }
+        ensures state { OnOk result (self.new.state ≡ stepped self.old.state (Mark start end)) }
+        ensures effect { OnOk result (self.new.effect ≡ change_of self.old.state (Mark start end)) }
+        ensures gap { self.new.gap ≡ self.old.gap }
+        ensures err { OnErr result ((self.new.state ≡ self.old.state) × (self.new.effect ≡ self.old.effect)) }
+        ensures room { 0 < self.old.spare_spans → IsOk result }
+        ensures spare_spans { OnOk result (self.old.spare_spans ≤ self.new.spare_spans + 1) }
+        ensures spare_stays { OnErr result (self.old.spare_spans ≤ self.new.spare_spans) }
+        ensures spare_units { self.old.spare_units ≤ self.new.spare_units }
+        ensures well_formed { IsWellFormed self.new.state }
+        ensures seated { (slots : ℕ) → IsSeated slots self.old.state.spans → IsSeated slots self.new.state.spans }
+    {
+        mark_row(start, end, &mut self.touched, &mut self.change)?;
+        Ok(())
     }
 }

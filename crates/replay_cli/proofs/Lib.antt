@@ -1,7 +1,5 @@
-pub mod Appending
 pub mod CheckRuns
 pub mod Cutting
-pub mod ItemRuns
 pub mod Known
 pub mod LineRuns
 pub mod LoadedShelves

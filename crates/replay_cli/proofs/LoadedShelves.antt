@@ -1,11 +1,10 @@
 -- The places that the settings' watchers take.
-use Rattle.std.proofs.Common.{◌≡◌, ℕ, true, List, [], ap, arith}
+use Rattle.std.proofs.Common.{◌≡◌, ℕ, true, List, [], ap}
 use Rattle.edit_model.specs.declared.settings.WatcherSetting.{WatcherSetting}
-use Rattle.edit_model.specs.State.{empty_state}
 use Rattle.edit_model.specs.Minds.{Mind}
 use Rattle.edit_model.specs.Shelves.{loaded_shelf}
 use Rattle.edit_model.proofs.Shelving.{shelf_loaded}
-use Rattle.watcher_rounds.specs.Rounds.{AreOnShelf, IsReady}
+use Rattle.watcher_rounds.specs.Rounds.{AreOnShelf}
 
 -- the places that the watchers took are places of the shelf then
 pub taken-on_shelf : (entries : List WatcherSetting) (minds after : List Mind) (slots : List ℕ) → slots ≡ (loaded_shelf entries minds).slots
@@ -17,7 +16,3 @@ taken-on_shelf entries minds after slots taken kept =
 pub none-fits : (entries : List WatcherSetting) (minds : List Mind) → entries ≡ [] → (loaded_shelf entries minds).fits ≡ true
 unfolding loaded_shelf
 none-fits entries minds none = ap (λ es. (loaded_shelf es minds).fits) none
-
--- over the empty text, no more than that has to hold
-pub empty-ready : (slots : List ℕ) (minds : List Mind) → AreOnShelf slots minds → IsReady slots empty_state minds 0
-empty-ready slots minds on = record { seated = tt; on_shelf = on; few = omega arith }

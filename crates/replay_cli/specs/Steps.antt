@@ -1,10 +1,9 @@
 -- One line of a run.
 use Rattle.std.specs.Prelude.{ℕ, ◌≡◌, ◌+◌, ◌++◌, Bool, true, false, List, [], ◌∷◌, take, Option, Some, None, Result, Ok, Err}
 use Rattle.std.specs.List.{concat}
-use Rattle.edit_model.specs.declared.items.Item.{Item}
-use Rattle.edit_model.specs.Machine.{Setup, Scene, Task, Reaches, at, run_item}
+use Rattle.edit_model.specs.Machine.{Setup}
 use Rattle.edit_model.specs.Minds.{Mind}
-use Rattle.edit_model.specs.Output.{Played, Session, scene_of, session_of, run_lines, check_lines, ended, overrun, checked, overrun_check}
+use Rattle.edit_model.specs.Output.{Played, Session, run_lines, check_lines, ended, overrun, checked, overrun_check}
 use Rattle.edit_model.specs.Lines.{open_line}
 use Rattle.replay_io.specs.Outside.{with_more}
 use Rattle.replay_cli.specs.declared.player.LineOutcome.{LineOutcome}
@@ -39,18 +38,6 @@ LineGives r number session line after Next old new = (close : ℕ → Session �
     Reached (run_lines r close number session (line ∷ lines)) (run_lines r close (number + 1) after lines) old new
 LineGives r number session line after (Stop answer) old new = (close : ℕ → Session → Played) (lines : List (List ℕ)) →
     Writes (run_lines r close number session (line ∷ lines)) answer old new × Keeps (run_lines r close number session (line ∷ lines)) answer after.minds
-
--- what stands then is what stood at some step of an item's run
-pub record StoodWithin (r : Setup) (it : Item) (old new : Session) : Type 0 where
-  pub scene : Scene
-  pub is : new ≡ session_of scene
-  pub agenda : List Task
-  pub through : Reaches r (at (scene_of old) (run_item it ∷ [])) (at scene agenda)
-
--- the same of a command, by the item that it asks for; without one nothing changes
-abbrev pub StoodBy : Setup → Option Item → Session → Session → Type 0
-StoodBy r None old new = new ≡ old
-StoodBy r (Some it) old new = StoodWithin r it old new
 
 -- a command's bytes were written, and what stands is what stands behind it, or the run has ended with a prefix of them
 abbrev pub CommandGives : List ℕ → Session → Session → LineOutcome → Option (List ℕ) → Option (List ℕ) → Type 0

@@ -7,21 +7,14 @@ ghost use Rattle.std.specs.Process.{exit_status};
 ghost use Rattle.replay_cli.specs.Statuses.{code_of};
 
 mod checker;
-mod commands;
-mod edits;
-mod end_block;
 mod lines;
 mod player;
-mod queries;
-mod ranges;
 mod requests;
 mod run;
 mod shelf;
 mod status;
 
 pub use checker::check_trace;
-pub use commands::{Buffers, run_command};
-pub use end_block::print_end;
 pub use lines::{TraceLine, is_blank_line, next_line, read_line};
 pub use player::{LineOutcome, play_lines, run_line, stop_at};
 use replay_io::{FileStore, OutSink};

@@ -1,29 +1,26 @@
-//! The lines of a trace, run one by one over a text with its watchers.
+//! The lines of a trace, run one by one by an editor.
 
-ghost use Rattle.settings_reader.specs.Seen.{as_settings};
 ghost use Rattle.std.specs.Prelude.{◌≡◌, ◌≢◌, ◌≤◌, true, false, List, Option, length, map, ℕ};
-ghost use Rattle.edit_base.specs.declared.bounds.TheConstants.Limits.{DEPTH, TRACE_BYTES};
+ghost use Rattle.edit_base.specs.declared.bounds.TheConstants.Limits.{TRACE_BYTES};
 ghost use Rattle.edit_model.specs.Minds.{Mind};
 ghost use Rattle.edit_model.specs.Reading.{IsFitting};
-ghost use Rattle.edit_model.specs.Output.{setup, standing, command_bytes, session_behind, run_lines, ended, stopped, cut_off, too_long};
+ghost use Rattle.edit_model.specs.Output.{command_bytes, session_behind, run_lines, ended, stopped, cut_off, too_long};
 ghost use Rattle.replay_io.specs.Outside.{Rose};
-ghost use Rattle.watcher_rounds.specs.Rounds.{IsReady};
+ghost use Rattle.watcher_rounds.specs.Rounds.{AreOnShelf};
+ghost use Rattle.editor_core.specs.Editors.{session_with};
 ghost use Rattle.replay_cli.specs.Runs.{Writes, Keeps};
 ghost use Rattle.replay_cli.specs.Steps.{LineGives, CommandGives, close_of};
 ghost use Rattle.replay_cli.specs.Lines.{lines_in};
 
-use crate::commands::{Buffers, run_command};
-use crate::end_block::print_end;
 use crate::lines::{TraceLine, next_line, read_line};
 use crate::status::Status;
 use edit_base::{Limits, NoMemory, Steps};
 use edit_model::{Command, TraceFault};
-use replace_engine::SpannedText;
+use editor_core::Editor;
 use replay_io::{Sink, write_all_of};
-use settings_reader::Settings;
 use std::alloc::Global;
 use std::sync::ledger::Ledger;
-use watcher_api::{Slots, Watcher};
+use watcher_api::Watcher;
 
 /// What became of a line.
 #[derive(Clone, Copy, Debug, PartialEq, Eq)]
@@ -34,28 +31,25 @@ pub enum LineOutcome {
     Stop(Status),
 }
 
-/// Runs the lines of a trace over a text under these settings, with the watchers of the shelf that stand in the slots,
-/// or those of its first bytes where more was cut off. The output of each command is written as soon as it is run, and
-/// the end block behind the last one.
+/// Runs the lines of a trace by an editor, with the watchers of the shelf that stand in its slots, or those of its first
+/// bytes where more was cut off. The output of each command is written as soon as it is run, and the end block behind
+/// the last one.
 pub fn play_lines<K: Sink, L: Ledger>(
     alloc: Global,
-    settings: &Settings,
-    slots: &Slots,
     trace: &[u8],
     is_cut: bool,
-    text: &mut SpannedText,
+    editor: &mut Editor,
     shelf: &mut Vec<Box<dyn Watcher>>,
     sink: &mut K,
     steps: &mut Steps<L>,
 ) -> Status
     requires within { length trace.now ≤ TRACE_BYTES }
-    requires depth { settings.now.depth ≤ DEPTH }
-    requires ready { IsReady slots.now.items text.old.state (map (λ b. mind b) shelf.old.items) 0 }
-    ensures writes { Writes (run_lines (setup (as_settings settings.now) slots.now.items) (close_of is_cut trace.now) 1
-        (standing text.old.state (map (λ b. mind b) shelf.old.items)) (lines_in is_cut trace.now)) result
+    requires slots { AreOnShelf editor.old.setup.slots (map (λ b. mind b) shelf.old.items) }
+    ensures writes { Writes (run_lines editor.old.setup (close_of is_cut trace.now) 1
+        (session_with editor.old (map (λ b. mind b) shelf.old.items)) (lines_in is_cut trace.now)) result
         (K.written sink.old) (K.written sink.new) }
-    ensures keeps { Keeps (run_lines (setup (as_settings settings.now) slots.now.items) (close_of is_cut trace.now) 1
-        (standing text.old.state (map (λ b. mind b) shelf.old.items)) (lines_in is_cut trace.now)) result
+    ensures keeps { Keeps (run_lines editor.old.setup (close_of is_cut trace.now) 1
+        (session_with editor.old (map (λ b. mind b) shelf.old.items)) (lines_in is_cut trace.now)) result
         (map (λ b. mind b) shelf.new.items) }
     ensures whole { result ≡ Status.Done → is_cut ≡ false }
     ensures cut { result ≡ Status.TraceTooLong → is_cut ≡ true }
@@ -63,26 +57,11 @@ pub fn play_lines<K: Sink, L: Ledger>(
     ensures quiet { result ≢ Status.WriteFault → K.faults sink.new ≡ K.faults sink.old }
     ensures counts { K.faults sink.old ≤ K.faults sink.new }
 {
-    let mut buffers = Buffers {
-        out: Vec::new(alloc),
-        rows: Vec::new(alloc),
-        log: Vec::new(alloc),
-    };
+    let mut out = Vec::new(alloc);
     let mut rest = trace;
     let mut number = 1u32;
     while let Some((line, others)) = next_line(rest, is_cut) {
-        match run_line(
-            alloc,
-            settings,
-            slots,
-            number,
-            line,
-            text,
-            shelf,
-            &mut buffers,
-            sink,
-            steps,
-        ) {
+        match run_line(alloc, number, line, editor, shelf, &mut out, sink, steps) {
             LineOutcome::Next => (),
             LineOutcome::Stop(status) => return status,
         }
@@ -92,7 +71,7 @@ pub fn play_lines<K: Sink, L: Ledger>(
     if is_cut {
         stop_at(number, rest)
     } else {
-        finish(text, &mut buffers.out, sink)
+        finish(editor, &mut out, sink)
     }
 }
 
@@ -118,22 +97,20 @@ pub fn stop_at(number: u32, tail: &[u8]) -> Status
 /// Runs one line.
 pub fn run_line<K: Sink, L: Ledger>(
     alloc: Global,
-    settings: &Settings,
-    slots: &Slots,
     number: u32,
     line: &[u8],
-    text: &mut SpannedText,
+    editor: &mut Editor,
     shelf: &mut Vec<Box<dyn Watcher>>,
-    buffers: &mut Buffers,
+    out: &mut Vec<u8>,
     sink: &mut K,
     steps: &mut Steps<L>,
 ) -> LineOutcome
-    requires depth { settings.now.depth ≤ DEPTH }
-    requires ready { IsReady slots.now.items text.old.state (map (λ b. mind b) shelf.old.items) 0 }
-    ensures gives { LineGives (setup (as_settings settings.now) slots.now.items) number
-        (standing text.old.state (map (λ b. mind b) shelf.old.items)) line.now
-        (standing text.new.state (map (λ b. mind b) shelf.new.items)) result (K.written sink.old) (K.written sink.new) }
-    ensures ready { IsReady slots.now.items text.new.state (map (λ b. mind b) shelf.new.items) 0 }
+    requires slots { AreOnShelf editor.old.setup.slots (map (λ b. mind b) shelf.old.items) }
+    ensures gives { LineGives editor.old.setup number
+        (session_with editor.old (map (λ b. mind b) shelf.old.items)) line.now
+        (session_with editor.new (map (λ b. mind b) shelf.new.items)) result (K.written sink.old) (K.written sink.new) }
+    ensures slots { AreOnShelf editor.new.setup.slots (map (λ b. mind b) shelf.new.items) }
+    ensures setup { editor.new.setup ≡ editor.old.setup }
     ensures undone { result ≢ LineOutcome.Stop Status.Done }
     ensures uncut { result ≢ LineOutcome.Stop Status.TraceTooLong }
     ensures failed { result ≡ LineOutcome.Stop Status.WriteFault → Rose (K.faults sink.old) (K.faults sink.new) }
@@ -145,47 +122,40 @@ pub fn run_line<K: Sink, L: Ledger>(
         Ok(TraceLine::Blank) => LineOutcome::Next,
         Ok(TraceLine::Faulty(kind)) => LineOutcome::Stop(Status::TraceFault { line: number, kind }),
         Ok(TraceLine::Command(command)) => {
-            write_command(
-                alloc, settings, slots, number, command, text, shelf, buffers, sink, steps,
-            )
+            write_command(number, &command, editor, shelf, out, sink, steps)
         }
     }
 }
 
 // Runs a command and writes its output.
 fn write_command<K: Sink, L: Ledger>(
-    alloc: Global,
-    settings: &Settings,
-    slots: &Slots,
     number: u32,
-    command: Command,
-    text: &mut SpannedText,
+    command: &Command,
+    editor: &mut Editor,
     shelf: &mut Vec<Box<dyn Watcher>>,
-    buffers: &mut Buffers,
+    out: &mut Vec<u8>,
     sink: &mut K,
     steps: &mut Steps<L>,
 ) -> LineOutcome
-    requires fitting { IsFitting command }
-    requires depth { settings.now.depth ≤ DEPTH }
-    requires ready { IsReady slots.now.items text.old.state (map (λ b. mind b) shelf.old.items) 0 }
-    ensures gives { CommandGives (command_bytes (setup (as_settings settings.now) slots.now.items) number
-        (standing text.old.state (map (λ b. mind b) shelf.old.items)) command)
-        (session_behind (setup (as_settings settings.now) slots.now.items)
-        (standing text.old.state (map (λ b. mind b) shelf.old.items)) command)
-        (standing text.new.state (map (λ b. mind b) shelf.new.items)) result (K.written sink.old) (K.written sink.new) }
-    ensures ready { IsReady slots.now.items text.new.state (map (λ b. mind b) shelf.new.items) 0 }
+    requires fitting { IsFitting command.now }
+    requires slots { AreOnShelf editor.old.setup.slots (map (λ b. mind b) shelf.old.items) }
+    ensures gives { CommandGives (command_bytes editor.old.setup number
+        (session_with editor.old (map (λ b. mind b) shelf.old.items)) command.now)
+        (session_behind editor.old.setup
+        (session_with editor.old (map (λ b. mind b) shelf.old.items)) command.now)
+        (session_with editor.new (map (λ b. mind b) shelf.new.items)) result (K.written sink.old) (K.written sink.new) }
+    ensures slots { AreOnShelf editor.new.setup.slots (map (λ b. mind b) shelf.new.items) }
+    ensures setup { editor.new.setup ≡ editor.old.setup }
     ensures undone { result ≢ LineOutcome.Stop Status.Done }
     ensures uncut { result ≢ LineOutcome.Stop Status.TraceTooLong }
     ensures failed { result ≡ LineOutcome.Stop Status.WriteFault → Rose (K.faults sink.old) (K.faults sink.new) }
     ensures quiet { result ≢ LineOutcome.Stop Status.WriteFault → K.faults sink.new ≡ K.faults sink.old }
     ensures counts { K.faults sink.old ≤ K.faults sink.new }
 {
-    buffers.out.clear();
-    match run_command(
-        alloc, settings, slots, number, command, text, shelf, buffers, steps,
-    ) {
+    out.clear();
+    match editor.command(shelf, number, command, out, steps) {
         Err(NoMemory) => LineOutcome::Stop(Status::NoMemory),
-        Ok(()) => match write_all_of(sink, buffers.out.as_slice()) {
+        Ok(()) => match write_all_of(sink, out.as_slice()) {
             Err(_) => LineOutcome::Stop(Status::WriteFault),
             Ok(()) => LineOutcome::Next,
         },
@@ -193,18 +163,18 @@ fn write_command<K: Sink, L: Ledger>(
 }
 
 // Writes the end block.
-fn finish<K: Sink>(text: &SpannedText, out: &mut Vec<u8>, sink: &mut K) -> Status
-    ensures writes { (number : ℕ) (minds : List Mind) → Writes (ended number (standing text.now.state minds)) result
+fn finish<K: Sink>(editor: &mut Editor, out: &mut Vec<u8>, sink: &mut K) -> Status
+    ensures writes { (number : ℕ) (minds : List Mind) → Writes (ended number (session_with editor.old minds)) result
         (K.written sink.old) (K.written sink.new) }
     ensures keeps { (number : ℕ) (minds : List Mind)
-        → Keeps (ended number (standing text.now.state minds)) result minds }
+        → Keeps (ended number (session_with editor.old minds)) result minds }
     ensures uncut { result ≢ Status.TraceTooLong }
     ensures failed { result ≡ Status.WriteFault → Rose (K.faults sink.old) (K.faults sink.new) }
     ensures quiet { result ≢ Status.WriteFault → K.faults sink.new ≡ K.faults sink.old }
     ensures counts { K.faults sink.old ≤ K.faults sink.new }
 {
     out.clear();
-    match print_end(text, out) {
+    match editor.finish(out) {
         Err(NoMemory) => Status::NoMemory,
         Ok(()) => match write_all_of(sink, out.as_slice()) {
             Err(_) => Status::WriteFault,

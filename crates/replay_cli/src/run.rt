@@ -17,7 +17,7 @@ use crate::requests::{Task, request_of};
 use crate::status::Status;
 use edit_base::{Limits, NoMemory, Steps};
 use edit_model::SettingsFault;
-use replace_engine::SpannedText;
+use editor_core::Editor;
 use replay_io::{ReadEnd, ReadFault, Sink, Store, read_all};
 use settings_reader::{Settings, built_in, load_shelf, read_settings};
 use std::alloc::Global;
@@ -112,7 +112,7 @@ fn run_request<S: Store, K: Sink>(
         Err(status) => status,
         Ok(settings) => match load_shelf(&settings, shelf) {
             Err(fault) => Status::SettingsFault(fault),
-            Ok(slots) => run_trace(alloc, &settings, &slots, task, trace, store, sink, shelf),
+            Ok(slots) => run_trace(alloc, settings, slots, task, trace, store, sink, shelf),
         },
     }
 }
@@ -179,21 +179,21 @@ fn settings_of(alloc: Global, bytes: &[u8]) -> Result<Settings, Status>
 // Reads the trace, whole or up to its limit, and runs or checks it.
 fn run_trace<S: Store, K: Sink>(
     alloc: Global,
-    settings: &Settings,
-    slots: &Slots,
+    settings: Settings,
+    slots: Slots,
     task: Task,
     trace: &str,
     store: &mut S,
     sink: &mut K,
     shelf: &mut Vec<Box<dyn Watcher>>,
 ) -> Status
-    requires depth { settings.now.depth ≤ DEPTH }
-    requires on_shelf { AreOnShelf slots.now.items (map (λ b. mind b) shelf.old.items) }
+    requires depth { settings.depth ≤ DEPTH }
+    requires on_shelf { AreOnShelf slots.items (map (λ b. mind b) shelf.old.items) }
     ensures leaves { IfSome (S.stands store.old trace.now)
-        (λ bytes. LeavesTrace (setup (as_settings settings.now) slots.now.items) (map (λ b. mind b) shelf.old.items)
+        (λ bytes. LeavesTrace (setup (as_settings settings) slots.items) (map (λ b. mind b) shelf.old.items)
         task bytes result (S.left store.new) (K.written sink.old) (K.written sink.new)) }
     ensures minds { IfSome (S.stands store.old trace.now)
-        (λ bytes. Keeps (given (setup (as_settings settings.now) slots.now.items) (map (λ b. mind b) shelf.old.items)
+        (λ bytes. Keeps (given (setup (as_settings settings) slots.items) (map (λ b. mind b) shelf.old.items)
         task bytes) result (map (λ b. mind b) shelf.new.items)) }
     ensures set { IsSet result }
     ensures read_fault { result ≡ Status.ReadFault → Rose (S.faults store.old) (S.faults store.new) }
@@ -239,8 +239,8 @@ fn run_trace<S: Store, K: Sink>(
 // Runs or checks a trace, or the front of one that was cut off.
 fn run_bytes<K: Sink>(
     alloc: Global,
-    settings: &Settings,
-    slots: &Slots,
+    settings: Settings,
+    slots: Slots,
     task: Task,
     bytes: &[u8],
     is_cut: bool,
@@ -248,11 +248,11 @@ fn run_bytes<K: Sink>(
     shelf: &mut Vec<Box<dyn Watcher>>,
 ) -> Status
     requires within { length bytes.now ≤ TRACE_BYTES }
-    requires depth { settings.now.depth ≤ DEPTH }
-    requires on_shelf { AreOnShelf slots.now.items (map (λ b. mind b) shelf.old.items) }
-    ensures writes { Writes (given_lines (setup (as_settings settings.now) slots.now.items)
+    requires depth { settings.depth ≤ DEPTH }
+    requires on_shelf { AreOnShelf slots.items (map (λ b. mind b) shelf.old.items) }
+    ensures writes { Writes (given_lines (setup (as_settings settings) slots.items)
         (map (λ b. mind b) shelf.old.items) task is_cut bytes.now) result (K.written sink.old) (K.written sink.new) }
-    ensures keeps { Keeps (given_lines (setup (as_settings settings.now) slots.now.items)
+    ensures keeps { Keeps (given_lines (setup (as_settings settings) slots.items)
         (map (λ b. mind b) shelf.old.items) task is_cut bytes.now) result (map (λ b. mind b) shelf.new.items) }
     ensures whole { result ≡ Status.Done → is_cut ≡ false }
     ensures cut { result ≡ Status.TraceTooLong → is_cut ≡ true }
@@ -271,8 +271,8 @@ fn run_bytes<K: Sink>(
 // Runs a trace over an empty text, with a counter of steps.
 fn play_counted<K: Sink, L: Ledger>(
     alloc: Global,
-    settings: &Settings,
-    slots: &Slots,
+    settings: Settings,
+    slots: Slots,
     bytes: &[u8],
     is_cut: bool,
     sink: &mut K,
@@ -280,15 +280,15 @@ fn play_counted<K: Sink, L: Ledger>(
     blank: Blank,
 ) -> Status
     requires within { length bytes.now ≤ TRACE_BYTES }
-    requires depth { settings.now.depth ≤ DEPTH }
-    requires on_shelf { AreOnShelf slots.now.items (map (λ b. mind b) shelf.old.items) }
+    requires depth { settings.depth ≤ DEPTH }
+    requires on_shelf { AreOnShelf slots.items (map (λ b. mind b) shelf.old.items) }
     requires name { blank.name ≡ L.name }
     requires parts { blank.parts ≡ L.parts }
     requires some { 0 < blank.parts }
-    ensures writes { Writes (given_lines (setup (as_settings settings.now) slots.now.items)
+    ensures writes { Writes (given_lines (setup (as_settings settings) slots.items)
         (map (λ b. mind b) shelf.old.items) Task.Play is_cut bytes.now)
         result (K.written sink.old) (K.written sink.new) }
-    ensures keeps { Keeps (given_lines (setup (as_settings settings.now) slots.now.items)
+    ensures keeps { Keeps (given_lines (setup (as_settings settings) slots.items)
         (map (λ b. mind b) shelf.old.items) Task.Play is_cut bytes.now) result (map (λ b. mind b) shelf.new.items) }
     ensures whole { result ≡ Status.Done → is_cut ≡ false }
     ensures cut { result ≡ Status.TraceTooLong → is_cut ≡ true }
@@ -296,12 +296,8 @@ fn play_counted<K: Sink, L: Ledger>(
     ensures quiet_sink { result ≢ Status.WriteFault → K.faults sink.new ≡ K.faults sink.old }
 {
     let mut steps = Steps::<L>::start(blank);
-    match SpannedText::new(alloc) {
+    match Editor::new(alloc, settings, slots) {
         Err(NoMemory) => Status::NoMemory,
-        Ok(mut text) => {
-            play_lines(
-                alloc, settings, slots, bytes, is_cut, &mut text, shelf, sink, &mut steps,
-            )
-        }
+        Ok(mut editor) => play_lines(alloc, bytes, is_cut, &mut editor, shelf, sink, &mut steps),
     }
 }

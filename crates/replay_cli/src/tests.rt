@@ -6,6 +6,7 @@ use replay_io::{MemorySink, MemoryStore, StoredFile};
 use std::alloc::Global;
 use std::test::Fail;
 
+mod connection;
 mod faults;
 mod lines;
 mod sizes;
@@ -21,7 +22,7 @@ const HELLO: &str = r#"{"op":"replace","start":0,"end":0,"text":"hello"}
 const HELLO_OUTPUT: &str = "> 1 replace\nedit 0 replace 0 0 5 done\n\
     > 2 replace\nedit 0 replace 1 4 2 done\n\
     > 3 replace\nedit 0 replace 2 2 0 nochange\n\
-    end\ntext 4 \"hxyo\"\n";
+    end\ntext 4 \"hxyo\"\nselection -1 -1\nregion -1 -1\n";
 
 fn texts(alloc: Global, words: &[&str]) -> Result<Vec<String>, Fail> {
     let mut texts = Vec::new(alloc);

@@ -13,6 +13,10 @@ Extends-behind old front mid new is more = record {
   is = more.is ∙ ap (λ bytes. bytes ++ more.more) is ∙ append_assoc old front more.more;
 }
 
+-- one piece behind another
+pub behind : (old front back mid new : List ℕ) → mid ≡ old ++ front → new ≡ mid ++ back → new ≡ old ++ (front ++ back)
+behind old front back mid new is more = more ∙ ap (λ bytes. bytes ++ back) is ∙ append_assoc old front back
+
 -- the bytes behind it
 pub some_more : {old new : List ℕ} → Extends old new → (more : List ℕ) × (new ≡ old ++ more)
 some_more more = (more.more, more.is)

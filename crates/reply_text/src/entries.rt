@@ -2,13 +2,12 @@
 #![tactic(auto, using(crate::proofs::Appending::appending))]
 
 ghost use Rattle.std.specs.Prelude.{◌≡◌, ◌++◌, OnOk, OnErr, codes, decimal};
-ghost use Rattle.std.specs.Fmt.{signed_decimal};
-ghost use Rattle.edit_model.specs.Printed.{spaced, header_line, entry_line};
+ghost use Rattle.edit_model.specs.Printed.{spaced, line_end, logged_text, signed_places, header_line, entry_line};
 ghost use Rattle.reply_text.specs.Appended.{Extends};
 
 use crate::callbacks::{push_event, push_span_event};
-use crate::verdicts::push_numbered_ending;
-use crate::words::{push, push_number, push_signed, push_word};
+use crate::verdicts::{push_ending, push_numbered_ending};
+use crate::words::{push, push_number, push_signed_places, push_word};
 use edit_base::NoMemory;
 use edit_model::{LogEntry, Logged};
 
@@ -46,6 +45,20 @@ pub fn print_entry(entry: &LogEntry, out: &mut Vec<u8>) -> Result<(), NoMemory>
             logged,
         } => push_set(*depth, *id, *start, *end, *flags, logged, out),
         LogEntry::Remove { depth, id, logged } => push_remove(*depth, *id, logged, out),
+        LogEntry::Select {
+            depth,
+            start,
+            end,
+            logged,
+        } => push_range_edit(*depth, "select", *start, *end, logged, out),
+        LogEntry::Deselect { depth, logged } => push_bare_edit(*depth, "deselect", logged, out),
+        LogEntry::Drop { depth, logged } => push_bare_edit(*depth, "drop", logged, out),
+        LogEntry::Mark {
+            depth,
+            start,
+            end,
+            logged,
+        } => push_range_edit(*depth, "mark", *start, *end, logged, out),
         LogEntry::Before { slot, event } => push_event("before", *slot, event, out),
         LogEntry::Changed { slot, event } => push_event("changed", *slot, event, out),
         LogEntry::After { slot, event } => push_event("after", *slot, event, out),
@@ -66,7 +79,7 @@ fn push_replace(
     ensures err { OnErr result (Extends out.old.items out.new.items) }
 {
     push_edit(depth, "replace", out)?;
-    push_places(start, end, out)?;
+    push_signed_places(start, end, out)?;
     push_numbered_ending(units, logged, out)
 }
 
@@ -85,7 +98,7 @@ fn push_set(
 {
     push_edit(depth, "set", out)?;
     push_number(id, out)?;
-    push_places(start, end, out)?;
+    push_signed_places(start, end, out)?;
     push_numbered_ending(flags, logged, out)
 }
 
@@ -98,6 +111,41 @@ fn push_remove(depth: u32, id: u32, logged: &Logged, out: &mut Vec<u8>) -> Resul
     push_numbered_ending(id, logged, out)
 }
 
+// An edit that has no more than its two places.
+fn push_range_edit(
+    depth: u32,
+    name: &str,
+    start: i64,
+    end: i64,
+    logged: &Logged,
+    out: &mut Vec<u8>,
+) -> Result<(), NoMemory>
+    ensures ok { OnOk result (out.new.items
+        ≡ out.old.items ++ (codes "edit" ++ spaced (decimal depth) ++ spaced name.now ++ signed_places start end
+        ++ logged_text logged.now ++ line_end)) }
+    ensures err { OnErr result (Extends out.old.items out.new.items) }
+{
+    push_edit(depth, name, out)?;
+    push_signed_places(start, end, out)?;
+    push_ending(logged, out)
+}
+
+// An edit without numbers.
+fn push_bare_edit(
+    depth: u32,
+    name: &str,
+    logged: &Logged,
+    out: &mut Vec<u8>,
+) -> Result<(), NoMemory>
+    ensures ok { OnOk result (out.new.items
+        ≡ out.old.items ++ (codes "edit" ++ spaced (decimal depth) ++ spaced name.now
+        ++ logged_text logged.now ++ line_end)) }
+    ensures err { OnErr result (Extends out.old.items out.new.items) }
+{
+    push_edit(depth, name, out)?;
+    push_ending(logged, out)
+}
+
 fn push_edit(depth: u32, name: &str, out: &mut Vec<u8>) -> Result<(), NoMemory>
     ensures ok { OnOk result (out.new.items
         ≡ out.old.items ++ (codes "edit" ++ spaced (decimal depth) ++ spaced name.now)) }
@@ -106,13 +154,4 @@ fn push_edit(depth: u32, name: &str, out: &mut Vec<u8>) -> Result<(), NoMemory>
     push("edit", out)?;
     push_number(depth, out)?;
     push_word(name, out)
-}
-
-fn push_places(start: i64, end: i64, out: &mut Vec<u8>) -> Result<(), NoMemory>
-    ensures ok { OnOk result (out.new.items
-        ≡ out.old.items ++ (spaced (signed_decimal start) ++ spaced (signed_decimal end))) }
-    ensures err { OnErr result (Extends out.old.items out.new.items) }
-{
-    push_signed(start, out)?;
-    push_signed(end, out)
 }

@@ -66,6 +66,20 @@ const PRINTED_REMOVALS: &str = "edit 0 remove 5 done\n\
     edit 0 remove 5 absent\n\
     edit 0 remove 2 refused reserved\n";
 
+// Selects from a start to an end, each with its verdict and the number behind that.
+const SELECTS: [(i64, i64, Verdict, u32); 2] = [
+    (3, 1, Verdict::Done, 0),
+    (-2_147_483_648, 4, Verdict::Refused(Refusal::Beyond), 3),
+];
+
+const PRINTED_SELECTIONS_AND_REGIONS: &str = "edit 0 select 3 1 done\n\
+    edit 0 select -2147483648 4 refused beyond 3\n\
+    edit 0 deselect absent\n\
+    edit 0 drop absent\n\
+    edit 8 deselect nochange\n\
+    edit 8 drop nochange\n\
+    edit 0 mark 2 1048576 ignored\n";
+
 // Spans: id, start, end, flags and what.
 const SPANS: [(u32, u32, u32, u32, What); 8] = [
     (6, 3, 5, 65_569, What::Tag(2)),
@@ -180,6 +194,39 @@ fn prints_removals(rt: HostRuntime) -> Result<(), Fail> {
 }
 
 #[test]
+fn prints_selections_and_regions(rt: HostRuntime) -> Result<(), Fail> {
+    let mut out = Vec::new(rt.alloc());
+    for (start, end, verdict, number) in SELECTS {
+        let logged = Logged { verdict, number };
+        let entry = LogEntry::Select {
+            depth: 0,
+            start,
+            end,
+            logged,
+        };
+        print_entry(&entry, &mut out)?;
+    }
+    for (depth, verdict) in [(0, Verdict::Absent), (8, Verdict::NoChange)] {
+        let logged = Logged { verdict, number: 0 };
+        print_entry(&LogEntry::Deselect { depth, logged }, &mut out)?;
+        print_entry(&LogEntry::Drop { depth, logged }, &mut out)?;
+    }
+    let logged = Logged {
+        verdict: Verdict::Ignored,
+        number: 0,
+    };
+    let mark = LogEntry::Mark {
+        depth: 0,
+        start: 2,
+        end: 1_048_576,
+        logged,
+    };
+    print_entry(&mark, &mut out)?;
+    assert_eq!(rt; out.as_slice(), PRINTED_SELECTIONS_AND_REGIONS.as_bytes());
+    Ok(())
+}
+
+#[test]
 fn prints_callbacks(rt: HostRuntime) -> Result<(), Fail> {
     let mut out = Vec::new(rt.alloc());
     let event = TextEvent {
@@ -251,6 +298,16 @@ fn prints_headers_replies_and_units(rt: HostRuntime) -> Result<(), Fail> {
         Reply::Found(3),
         Reply::Edge(5),
         Reply::Verdict(refused),
+        Reply::Nothing,
+        Reply::Report {
+            sel_start: 6,
+            sel_end: 3,
+            start: -1,
+            end: 4,
+        },
+        Reply::End,
+        Reply::Selection { start: 3, end: 1 },
+        Reply::Region { start: -1, end: -1 },
         Reply::Checked(12),
     ] {
         print_reply(&reply, &mut out)?;
@@ -262,6 +319,11 @@ fn prints_headers_replies_and_units(rt: HostRuntime) -> Result<(), Fail> {
         found 3\n\
         edge 5\n\
         reply refused order 6\n\
+        none\n\
+        report 6 3 -1 4\n\
+        end\n\
+        selection 3 1\n\
+        region -1 -1\n\
         ok 12\n\
         text 4 \"hxyo\"\n\
         text 9 \"a\\u0022\\u005c\\u000a\\u00e9\\ud83d~\\u007f \"\n";

@@ -3,7 +3,7 @@
 
 ghost use Rattle.std.specs.Prelude.{◌≡◌, ◌++◌, OnOk, OnErr, decimal};
 ghost use Rattle.std.specs.Fmt.{signed_decimal};
-ghost use Rattle.edit_model.specs.Printed.{spaced, line_end};
+ghost use Rattle.edit_model.specs.Printed.{spaced, line_end, signed_places};
 ghost use Rattle.reply_text.specs.Appended.{Extends};
 
 use edit_base::NoMemory;
@@ -49,6 +49,15 @@ pub fn push_signed(number: i64, out: &mut Vec<u8>) -> Result<(), NoMemory>
     ensures err { OnErr result (Extends out.old.items out.new.items) }
 {
     push_word(Buffer::new().format(number), out)
+}
+
+/// Appends two places, each behind a space; either may be negative.
+pub fn push_signed_places(start: i64, end: i64, out: &mut Vec<u8>) -> Result<(), NoMemory>
+    ensures ok { OnOk result (out.new.items ≡ out.old.items ++ signed_places start end) }
+    ensures err { OnErr result (Extends out.old.items out.new.items) }
+{
+    push_signed(start, out)?;
+    push_signed(end, out)
 }
 
 /// A line of a word and a number.

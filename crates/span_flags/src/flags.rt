@@ -1,7 +1,7 @@
 //! The flags word of a span: its kind, its priority and the mark of a composing text.
 
 ghost use Rattle.std.specs.Prelude.{◌≡◌, ◌%◌, ◌↔◌, false, IsTrue, IsErr, IfOk};
-ghost use Rattle.edit_model.specs.Flags.{has_refused_bit, is_bad, kind_named, kind_of, priority_of};
+ghost use Rattle.edit_model.specs.Flags.{has_refused_bit, is_bad, is_composing, kind_named, kind_of, priority_of};
 ghost use Rattle.edit_model.specs.Flags.{is_paragraph, is_point_mark, start_kind, end_kind};
 
 use edit_model::{EndKind, Kind};
@@ -67,6 +67,13 @@ pub fn priority_of_word(word: u32) -> u8
     ensures { result ≡ priority_of word }
 {
     ((word >> 16) & 0xff) as u8
+}
+
+/// Whether a word marks a span as part of a composing text, be it bad or not.
+pub fn is_composing(word: u32) -> bool
+    ensures { result ≡ is_composing word }
+{
+    (word >> 8) & 1 == 1
 }
 
 /// Whether a span of this kind may not be empty.

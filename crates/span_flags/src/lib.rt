@@ -1,5 +1,5 @@
 //! The flags words of spans, the table of the moves that the ends of spans make at a replacement, and which spans lie
-//! over a range.
+//! over a range or are emptied by a replacement of it.
 #![tactic(auto)]
 
 mod flags;
@@ -9,11 +9,11 @@ mod places;
 
 pub use edit_model::{EndKind, Kind};
 pub use flags::{
-    BadFlags, Flags, end_of_kind, flags_of, is_paragraph, is_point_mark, kind_of_word,
-    priority_of_word, start_of,
+    BadFlags, Flags, end_of_kind, flags_of, is_composing, is_paragraph, is_point_mark,
+    kind_of_word, priority_of_word, start_of,
 };
 pub use moves::{Move, MoveTable, move_table, moved};
-pub use over::{is_layout, is_picked, is_watch, lies_over, touches};
+pub use over::{is_emptied, is_layout, is_picked, is_watch, lies_over, touches};
 pub use places::{PlaceClass, end_after, is_pulled};
 
 #[cfg(test)]

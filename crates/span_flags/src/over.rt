@@ -1,9 +1,11 @@
-//! Which rows lie over a range, and which of them a query asks for.
+//! Which rows lie over a range, which of them a query asks for, and which a replacement empties.
 
 ghost use Rattle.std.specs.Prelude.{◌≡◌};
 ghost use Rattle.edit_model.specs.Over.{is_layout, is_picked, is_watch, lies_over, touches};
+ghost use Rattle.edit_model.specs.Replaced.{is_emptied};
 ghost use Rattle.edit_model.specs.Rows.{span_of};
 
+use crate::flags::{is_point_mark, kind_of_word};
 use edit_base::{Pick, SpanRow, What};
 
 /// Whether a span and the range share a place, be it an end of both.
@@ -19,6 +21,18 @@ pub fn lies_over(row: &SpanRow, start: u32, end: u32) -> bool
 {
     touches(row, start, end)
         && (row.start == row.end || start == end || (row.start != end && row.end != start))
+}
+
+/// Whether a span that may not be empty would be, when the units from `start` to `end` become `grown` units: it lies in
+/// the range, and is cut to nothing. One that spans the whole range stays where units come.
+pub fn is_emptied(row: &SpanRow, start: u32, end: u32, grown: u32) -> bool
+    ensures { result ≡ is_emptied start end grown (span_of row.now) }
+{
+    is_point_mark(kind_of_word(row.flags))
+        && start < end
+        && start <= row.start
+        && row.end <= end
+        && (grown == 0 || start < row.start || row.end < end)
 }
 
 /// Whether a query asks for such spans.

@@ -28,6 +28,9 @@ fn flags_words_and_what_they_say(rt: HostRuntime) {
     ] {
         assert_eq!(rt; flags_of(word), Err(BadFlags), "at {word}");
     }
+    for (word, marked) in [(289, true), (0x333, true), (33, false), (546, false)] {
+        assert_eq!(rt; is_composing(word), marked, "at {word}");
+    }
     assert_eq!(rt; start_of(Kind::MarkPoint), EndKind::Mark);
     assert_eq!(rt; end_of_kind(Kind::MarkPoint), EndKind::Point);
     assert_eq!(rt; start_of(Kind::PointMark), EndKind::Point);
@@ -126,5 +129,39 @@ fn spans_lie_over_ranges_that_they_touch_and_are_picked(rt: HostRuntime) {
     for (what, wanted) in picks {
         let found = [Pick::All, Pick::Watches, Pick::Layout].map(|pick| is_picked(pick, what));
         assert_eq!(rt; found, wanted);
+    }
+}
+
+#[test]
+fn spans_that_may_not_be_empty_are_emptied(rt: HostRuntime) {
+    let cases = [
+        // (the flags word, the span, (the range, the units brought), emptied)
+        (33, (2, 4), (2, 4, 0), true),
+        (33, (2, 4), (1, 4, 3), true),
+        (33, (3, 3), (2, 4, 1), true),
+        // units come in place of the whole span
+        (33, (2, 4), (2, 4, 1), false),
+        // it reaches out of the range
+        (33, (2, 5), (2, 4, 0), false),
+        (33, (1, 4), (2, 4, 0), false),
+        // nothing goes
+        (33, (2, 2), (2, 2, 1), false),
+        // it may be empty
+        (17, (2, 4), (2, 4, 0), false),
+    ];
+    for (flags, (from, to), (start, end, grown), wanted) in cases {
+        let row = SpanRow {
+            id: 1,
+            start: from,
+            end: to,
+            flags,
+            order: 0,
+            what: What::Tag(1),
+        };
+        assert_eq!(rt;
+            is_emptied(&row, start, end, grown),
+            wanted,
+            "{from} {to} in {start} {end}"
+        );
     }
 }

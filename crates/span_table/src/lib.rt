@@ -3,9 +3,12 @@
 
 mod kept;
 mod offsets;
+mod room;
 mod table;
 #[cfg(test)]
 mod tests;
 
 pub use kept::KeptRow;
+pub use offsets::is_point;
+pub use room::push_within;
 pub use table::SpanRows;

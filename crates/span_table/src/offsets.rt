@@ -45,7 +45,8 @@ pub fn ends_behind(flags: u32) -> bool
     is_point(end_of_kind(kind_of_word(flags)))
 }
 
-fn is_point(kind: EndKind) -> bool
+/// Whether an end of this kind that stands at the gap stands behind it.
+pub fn is_point(kind: EndKind) -> bool
     ensures { result ≡ is_point kind }
 {
     matches!(kind, EndKind::Point)

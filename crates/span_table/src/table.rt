@@ -10,8 +10,8 @@ ghost use Rattle.span_table.specs.Table.{kept_at, kept_span, place_of, seen, spa
 use crate::kept::{KeptRow, keep_anew};
 use edit_base::{NoMemory, SpanRow, Steps};
 use std::alloc::Global;
-use std::marker::Model;
-use std::sync::ledger::Ledger;
+use std::marker::{Brand, Model};
+use std::sync::ledger::{Blank, Ledger};
 
 /// Spans in order of attachment, round a gap of a text. A row that is read has its place in this list as its order.
 #[derive(Drop)]
@@ -103,6 +103,15 @@ impl SpanRows {
     {
         steps.tick();
         self.rows[i as usize].seen(self.gap, self.room, u64::from(i))
+    }
+
+    /// The row at a place, which is its order, read with a counter of its own.
+    pub fn read(&self, i: u32) -> SpanRow
+        requires { i < length self.now.kept }
+        ensures span { span_of result ≡ span_at (spans_of self.now) i }
+        ensures order { result.order ≡ i }
+    {
+        read_counted::<Brand>(self, i, Blank::new(1))
     }
 
     /// The row at a place as it is kept.
@@ -244,4 +253,16 @@ impl SpanRows {
         self.room += self.gap - start;
         self.gap = start;
     }
+}
+
+fn read_counted<L: Ledger>(rows: &SpanRows, i: u32, blank: Blank) -> SpanRow
+    requires within { i < length rows.now.kept }
+    requires name { blank.name ≡ L.name }
+    requires parts { blank.parts ≡ L.parts }
+    requires some { 0 < blank.parts }
+    ensures span { span_of result ≡ span_at (spans_of rows.now) i }
+    ensures order { result.order ≡ i }
+{
+    let mut steps = Steps::<L>::start(blank);
+    rows.row(i, &mut steps)
 }

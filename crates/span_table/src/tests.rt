@@ -44,6 +44,7 @@ fn shows<L: Ledger>(rt: &impl Abort, rows: &SpanRows, ends: [(u32, u32); 5], ste
             (i + 1, ends[i as usize].0, ends[i as usize].1)
         );
         assert_eq!(rt; row.order, u64::from(i));
+        assert_eq!(rt; rows.read(i), row);
     }
 }
 

@@ -1,24 +1,27 @@
 //! A tool that measures: it makes a text with spans and does one replacement after another, each of them a call of
 //! `SpannedText::replace` alone, or asks one query after another. A line of a trace takes longer to be read than a replacement takes, so `play` can't
 //! tell what one costs. The words are KIND LENGTH SPANS COUNT; the difference to a run whose COUNT is 0 is the time of
-//! what is done. What they do to a text is the contract of the call that is measured; here each function is proved
-//! safe, and a run says what its text came to.
+//! what is done. Of an editor's commands each is one call of `Editor::command`, with all that it plans, does and prints.
+//! What they do to a text is the contract of the call that is measured; here each function is proved safe, and a run says
+//! what its text came to.
 #![tactic(auto)]
 
 ghost use Rattle.std.specs.Prelude.{◌≡◌, ◌≤◌, ◌<◌};
 ghost use Rattle.std.specs.Process.{exit_status};
 ghost use Rattle.edit_base.specs.declared.bounds.TheConstants.Limits.{TEXT, SPANS};
 
+mod commanding;
 mod faults;
 mod making;
 mod random;
 mod replacing;
 mod requests;
 
+use commanding::do_commands;
 use edit_base::Steps;
+use editor_core::Summary;
 use faults::Fault;
 use making::text_with_spans;
-use replace_engine::SpannedText;
 use replacing::do_many;
 use requests::{Kind, Request, request_of};
 use std::alloc::Global;
@@ -48,11 +51,10 @@ fn run(rt: &HostRuntime) -> Result<(), Fault> {
     let Some(request) = request_of(words.as_slice()) else {
         return Err(Fault::Usage);
     };
-    let (text, found) = measure(rt.alloc(), &request)?;
+    let (held, found) = measure(rt.alloc(), &request)?;
     match println!(rt;
         "{} units, {} spans, {found} found",
-        text.len(),
-        text.span_count()
+        held.length, held.spans
     ) {
         Ok(()) => Ok(()),
         Err(_) => Err(Fault::Write),
@@ -73,8 +75,8 @@ fn unread_words(error: &io::Error) -> Fault {
     }
 }
 
-// The text that a request leaves, and what its queries found in all.
-fn measure(alloc: Global, request: &Request) -> Result<(SpannedText, u64), Fault>
+// How much the text holds that a request leaves, and what its queries found in all.
+fn measure(alloc: Global, request: &Request) -> Result<(Summary, u64), Fault>
     requires some { 1 ≤ request.now.length }
     requires length { request.now.length ≤ TEXT }
     requires spans { request.now.spans ≤ SPANS }
@@ -87,7 +89,7 @@ fn measure_counted<L: Ledger>(
     alloc: Global,
     request: &Request,
     blank: Blank,
-) -> Result<(SpannedText, u64), Fault>
+) -> Result<(Summary, u64), Fault>
     requires some { 1 ≤ request.now.length }
     requires length { request.now.length ≤ TEXT }
     requires spans { request.now.spans ≤ SPANS }
@@ -96,6 +98,9 @@ fn measure_counted<L: Ledger>(
     requires open { 0 < blank.parts }
 {
     let mut steps = Steps::<L>::start(blank);
+    if request.kind.is_command() {
+        return Ok((do_commands(alloc, request, &mut steps)?, 0));
+    }
     let mut text = text_with_spans(
         alloc,
         request.length,
@@ -104,5 +109,9 @@ fn measure_counted<L: Ledger>(
         &mut steps,
     )?;
     let found = do_many(alloc, &mut text, request.kind, request.count, &mut steps)?;
-    Ok((text, found))
+    let held = Summary {
+        length: text.len(),
+        spans: text.span_count(),
+    };
+    Ok((held, found))
 }

@@ -86,7 +86,7 @@ fn attach_spans<L: Ledger>(
     Ok(())
 }
 
-// Attaches a span over the unit at a place. Every third one has the same kind of ends.
+// Attaches a span over the unit at a place.
 fn attach_span<L: Ledger>(
     text: &mut SpannedText,
     at: u32,
@@ -96,16 +96,11 @@ fn attach_span<L: Ledger>(
     requires at { at ≤ SPANS }
     requires start { start < TEXT }
 {
-    let flags = match at % 3 {
-        0 => 17,
-        1 => 18,
-        _ => 34,
-    };
     let verdict = text.set_span(
         16 + at,
         start as i32,
         start as i32 + 1,
-        flags,
+        flags_of_tag(at),
         What::Tag(at),
         0,
         steps,
@@ -113,5 +108,14 @@ fn attach_span<L: Ledger>(
     match verdict {
         Verdict::Done => Ok(()),
         _ => Err(Fault::NotDone),
+    }
+}
+
+/// The flags word of a span: every third one has the same kind of ends.
+pub fn flags_of_tag(at: u32) -> u32 {
+    match at % 3 {
+        0 => 17,
+        1 => 18,
+        _ => 34,
     }
 }

@@ -3,6 +3,7 @@
 ghost use Rattle.std.specs.Prelude.{◌≡◌, ◌≤◌, IfSome};
 ghost use Rattle.edit_base.specs.declared.bounds.TheConstants.Limits.{TEXT, SPANS};
 
+use crate::commanding::TYPED;
 use edit_base::Limits;
 
 /// What is measured.
@@ -24,6 +25,28 @@ pub enum Kind {
     Query,
     /// The next edge behind a place that is drawn is asked for.
     Edge,
+    /// A command of an editor: a unit comes behind the one that came before it, from the middle on.
+    Typed,
+    /// The selection goes from one place to another.
+    Select,
+    /// The same outside of a batch, so that each is reported.
+    Report,
+    /// The composing text becomes another one.
+    Compose,
+    /// A unit comes at the selection, from an input method.
+    Commit,
+    /// The unit before the selection goes.
+    Delete,
+}
+
+impl Kind {
+    /// Whether it is a command of an editor.
+    pub fn is_command(&self) -> bool {
+        matches!(
+            self,
+            Kind::Typed | Kind::Select | Kind::Report | Kind::Compose | Kind::Commit | Kind::Delete
+        )
+    }
 }
 
 /// What is measured: the kind, how many units and spans the text has at first, and how often it is
@@ -61,7 +84,7 @@ pub fn request_of(words: &[String]) -> Option<Request>
     }
 }
 
-const KINDS: [(&str, Kind); 8] = [
+const KINDS: [(&str, Kind); 14] = [
     ("cursor", Kind::Cursor),
     ("anywhere", Kind::Anywhere),
     ("backspace", Kind::Backspace),
@@ -70,7 +93,16 @@ const KINDS: [(&str, Kind); 8] = [
     ("pile", Kind::Pile),
     ("query", Kind::Query),
     ("edge", Kind::Edge),
+    ("typed", Kind::Typed),
+    ("select", Kind::Select),
+    ("report", Kind::Report),
+    ("compose", Kind::Compose),
+    ("commit", Kind::Commit),
+    ("delete", Kind::Delete),
 ];
+
+/// How many spans a selection and a composing region are.
+const KEPT: u32 = 3;
 
 fn kind_of(word: &str) -> Option<Kind> {
     KINDS
@@ -80,15 +112,24 @@ fn kind_of(word: &str) -> Option<Kind> {
 }
 
 // Whether the text has room for the units that come, or as many units before the middle as go. A cursor takes back what
-// it brought once the text is full, so there one unit is enough.
+// it brought once the text is full, so there one unit is enough. A command's text has a selection and may have a
+// composing region, which are spans too.
 fn has_room(request: &Request) -> bool
-    requires { request.now.length ≤ TEXT }
+    requires length { request.now.length ≤ TEXT }
+    requires spans { request.now.spans ≤ SPANS }
 {
     let room = Limits::TEXT - request.length;
+    if request.kind.is_command() && request.spans + KEPT > Limits::SPANS {
+        return false;
+    }
     match request.kind {
         Kind::Cursor | Kind::Pile => 0 < room,
         Kind::Anywhere => request.count <= room,
         Kind::Backspace => request.count <= request.length / 2,
         Kind::Ends | Kind::Clear | Kind::Query | Kind::Edge => true,
+        Kind::Typed | Kind::Commit => request.count <= room,
+        Kind::Select | Kind::Report => 2 <= request.length,
+        Kind::Compose => 2 <= room,
+        Kind::Delete => request.count <= TYPED && TYPED <= room,
     }
 }

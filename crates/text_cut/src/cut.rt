@@ -4,13 +4,16 @@ ghost use Rattle.std.specs.Prelude.{◌≡◌, ◌≤◌, ◌<◌, ◌+◌, ◌-
 ghost use Rattle.std.specs.Option.{ForSome};
 ghost use Rattle.edit_base.specs.declared.bounds.TheConstants.Limits.{TEXT};
 ghost use Rattle.edit_model.specs.Boundaries.{is_boundary, next_boundary};
-ghost use Rattle.edit_model.specs.EndTable.{end_of_span, is_pulled};
+ghost use Rattle.edit_model.specs.EndTable.{end_of_span, is_pulled, is_scaled, scaled};
 ghost use Rattle.edit_model.specs.Replaced.{spliced, spliced_length};
 ghost use Rattle.text_cut.specs.Halves.{joined};
 
 use crate::halves::Halves;
 use edit_base::NEWLINE;
 use span_flags::{EndKind, end_after};
+
+/// The ids below this one are those of the selection's two spans.
+const SELECTION_IDS: u32 = 2;
 
 /// The units from `start` to `end` of a text, which become others.
 #[derive(Clone, Copy)]
@@ -64,13 +67,18 @@ impl<'a> Cut<'a> {
 }
 
 impl Cut<'_> {
-    /// Where an end of the span with this id goes. Today its kind alone decides.
+    /// Where an end of the span with this id goes. An end of the selection that stands between the ends of the range,
+    /// where units come, goes as far into them as it was into those that go, in proportion and rounded down. Every
+    /// other end goes where its kind takes it.
     pub fn end_after(&self, id: u32, end_kind: EndKind, at: u32) -> u32
         requires place { at ≤ length (joined self.now.text) }
         requires boundary { end_kind ≡ EndKind.Paragraph → is_pulled at self.now.start self.now.end ≡ true
             → self.now.boundary ≡ Some (next_boundary (joined self.now.text) self.now.end) }
         ensures { result ≡ end_of_span id end_kind at self.now.start self.now.end self.now.grown (joined self.now.text) }
     {
+        if self.is_scaled(id, at) {
+            return self.scaled(at);
+        }
         end_after(
             end_kind,
             at,
@@ -80,6 +88,25 @@ impl Cut<'_> {
             self.text.len(),
             self.boundary,
         )
+    }
+
+    // Whether it is an end of the selection between the ends of the range, where units come.
+    fn is_scaled(&self, id: u32, at: u32) -> bool
+        ensures { result ≡ is_scaled id at self.now.start self.now.end self.now.grown }
+    {
+        id < SELECTION_IDS && self.start < at && at < self.end && self.grown > 0
+    }
+
+    // The place as far into the units that come as this one is into those that go. Both counts are those of a text, so
+    // that 64 bits hold their product.
+    fn scaled(&self, at: u32) -> u32
+        requires least { self.now.start < at }
+        requires greatest { at < self.now.end }
+        ensures { result ≡ scaled at self.now.start self.now.end self.now.grown }
+    {
+        let product = u64::from(at - self.start) * u64::from(self.grown);
+        let part = product / u64::from(self.end - self.start);
+        self.start + part as u32
     }
 
     /// Whether a place among the units that come, counted in the text that stands then, is a boundary of paragraphs.

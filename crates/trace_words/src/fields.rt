@@ -5,7 +5,8 @@ ghost use Rattle.serde_json.specs.Find.{as_str};
 ghost use Rattle.serde_json.specs.View.{view, items_view, members_view};
 ghost use Rattle.edit_model.specs.Words.{as_span};
 ghost use Rattle.edit_model.specs.Reading.{what_of, spans_said, spans_of, value_in};
-ghost use Rattle.edit_model.specs.Reading.{number_found, place_found, word_found, what_found, text_found, spans_found};
+ghost use Rattle.edit_model.specs.Reading.{number_found, place_found, count_found, word_found};
+ghost use Rattle.edit_model.specs.Reading.{what_found, text_found, spans_found};
 ghost use Rattle.trace_words.specs.Fields.{FindsNumber, FindsText};
 
 use crate::words::{span_from, what_from};
@@ -43,6 +44,14 @@ pub(crate) fn place_in(object: &Object, name: &str) -> Result<i32, TraceFault>
 {
     let number = number_in(object, name, i64::from(i32::MIN), i64::from(i32::MAX))?;
     Ok(number as i32)
+}
+
+// A count: as a place, without sign.
+pub(crate) fn count_in(object: &Object, name: &str) -> Result<u32, TraceFault>
+    ensures { FindsNumber (λ n. pos n) (count_found name.now (members_view object.now.entries)) result }
+{
+    let number = number_in(object, name, 0, i64::from(i32::MAX))?;
+    Ok(number as u32)
 }
 
 // An id or a flags word.

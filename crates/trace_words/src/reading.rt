@@ -15,7 +15,7 @@ ghost use Rattle.edit_model.specs.Reading.{command_in, incoming_of};
 ghost use Rattle.edit_model.specs.Reading.{read_object, read_command, IsFitting};
 ghost use Rattle.trace_words.specs.Table.{shown_field, is_foreign, is_absent};
 
-use crate::fields::{Object, member, place_in, spans_in, text_in, what_in, word_in};
+use crate::fields::{Object, count_in, member, place_in, spans_in, text_in, what_in, word_in};
 use crate::table::{OpField, op_fields, op_named};
 use edit_base::{Incoming, Items, Limits, NewSpan};
 use edit_model::{Command, Op, TraceFault};
@@ -160,6 +160,7 @@ fn is_absent(object: &Object, field: &OpField) -> bool
 // The value of a field in its form.
 macro_rules! field {
     ($alloc:expr, $object:expr, $name:expr, place) => { place_in($object, $name)? };
+    ($alloc:expr, $object:expr, $name:expr, count) => { count_in($object, $name)? };
     ($alloc:expr, $object:expr, $name:expr, word) => { word_in($object, $name)? };
     ($alloc:expr, $object:expr, $name:expr, text) => { text_in($alloc, $object, $name)? };
     ($alloc:expr, $object:expr, $name:expr, what) => { what_in($object, $name)? };
@@ -193,6 +194,28 @@ fn read_values(alloc: Global, op: Op, object: &Object) -> Result<Command, TraceF
             => Command::SpansOver { start, end }),
         Op::NextEdge => command!(alloc, object, { start: place, limit: place }
             => Command::NextEdge { start, limit }),
+        Op::Select =>
+            command!(alloc, object, { start: place, end: place } => Command::Select { start, end }),
+        Op::Deselect => Ok(Command::Deselect),
+        Op::Compose => command!(alloc, object, { cursor: place, text: text, spans: spans }
+            => Command::Compose { incoming: incoming_of(text, spans), cursor }),
+        Op::Commit => command!(alloc, object, { cursor: place, text: text, spans: spans }
+            => Command::Commit { incoming: incoming_of(text, spans), cursor }),
+        Op::Finish => Ok(Command::Finish),
+        Op::Region =>
+            command!(alloc, object, { start: place, end: place } => Command::Region { start, end }),
+        Op::DeleteAround => command!(alloc, object, { before: count, after: count }
+            => Command::DeleteAround { before, after }),
+        Op::DeletePoints => command!(alloc, object, { before: count, after: count }
+            => Command::DeletePoints { before, after }),
+        Op::SetSelection => command!(alloc, object, { start: place, end: place }
+            => Command::SetSelection { start, end }),
+        Op::TextBefore =>
+            command!(alloc, object, { count: count } => Command::TextBefore { count }),
+        Op::TextAfter => command!(alloc, object, { count: count } => Command::TextAfter { count }),
+        Op::Selected => Ok(Command::Selected),
+        Op::Begin => Ok(Command::Begin),
+        Op::End => Ok(Command::End),
     }
 }
 

@@ -19,12 +19,26 @@ pub struct OpField {
 }
 
 // Every operation, in the order of the table.
-const OPS: [Op; 5] = [
+const OPS: [Op; 19] = [
     Op::Replace,
     Op::SetSpan,
     Op::RemoveSpan,
     Op::SpansOver,
     Op::NextEdge,
+    Op::Select,
+    Op::Deselect,
+    Op::Compose,
+    Op::Commit,
+    Op::Finish,
+    Op::Region,
+    Op::DeleteAround,
+    Op::DeletePoints,
+    Op::SetSelection,
+    Op::TextBefore,
+    Op::TextAfter,
+    Op::Selected,
+    Op::Begin,
+    Op::End,
 ];
 
 // What an operation is called, and its fields.
@@ -57,6 +71,20 @@ fn row_of(op: Op) -> Row
         Op::RemoveSpan => row!("remove_span": "id"),
         Op::SpansOver => row!("spans_over": "start" "end"),
         Op::NextEdge => row!("next_edge": "start" "limit"),
+        Op::Select => row!("select": "start" "end"),
+        Op::Deselect => row!("deselect":),
+        Op::Compose => row!("compose": "text" "cursor" ["spans"]),
+        Op::Commit => row!("commit": "text" "cursor" ["spans"]),
+        Op::Finish => row!("finish":),
+        Op::Region => row!("region": "start" "end"),
+        Op::DeleteAround => row!("delete_around": "before" "after"),
+        Op::DeletePoints => row!("delete_points": "before" "after"),
+        Op::SetSelection => row!("set_selection": "start" "end"),
+        Op::TextBefore => row!("text_before": "count"),
+        Op::TextAfter => row!("text_after": "count"),
+        Op::Selected => row!("selected":),
+        Op::Begin => row!("begin":),
+        Op::End => row!("end":),
     }
 }
 
@@ -142,7 +170,7 @@ fn field_at(fields: &[OpField], of: usize) -> Option<OpField>
 }
 
 /// The table of every operation.
-pub fn op_table() -> OpTable<5>
+pub fn op_table() -> OpTable<19>
     ensures rows { result ≡ table }
     ensures names { IsDistinct bytes_eq (map (λ it. it.name) result) }
 {

@@ -6,7 +6,10 @@ use std::test::Fail;
 #[test]
 fn the_table_has_each_operation_with_its_fields(rt: HostRuntime) -> Result<(), Fail> {
     let want = "replace start end text [spans]; set_span id start end flags what; \
-        remove_span id; spans_over start end; next_edge start limit; ";
+        remove_span id; spans_over start end; next_edge start limit; select start end; deselect; \
+        compose text cursor [spans]; commit text cursor [spans]; finish; region start end; \
+        delete_around before after; delete_points before after; set_selection start end; \
+        text_before count; text_after count; selected; begin; end; ";
     let table = op_table();
     let mut words = String::new(rt.alloc());
     for at in 0..table.len() {
@@ -66,13 +69,14 @@ fn shown(alloc: Global, read: &Result<Command, TraceFault>) -> Result<String, Al
         Ok(Command::RemoveSpan { id }) => format!(in alloc; "remove {id}"),
         Ok(Command::SpansOver { start, end }) => format!(in alloc; "over {start} {end}"),
         Ok(Command::NextEdge { start, limit }) => format!(in alloc; "edge {start} {limit}"),
+        Ok(_) => String::from_str(alloc, "another"),
         Err(fault) => format!(in alloc; "{fault}"),
     }
 }
 
 #[test]
 fn a_line_is_a_command_or_has_its_first_fault(rt: HostRuntime) -> Result<(), Fail> {
-    let lines: [(&[u8], &str); 45] = [
+    let lines: [(&[u8], &str); 46] = [
         (b"{\"op\":", "json"),
         (b"", "json"),
         (b"{\"op\":\"a\x01\"}", "json"),
@@ -89,12 +93,13 @@ fn a_line_is_a_command_or_has_its_first_fault(rt: HostRuntime) -> Result<(), Fai
         (br#"{"op":1}"#, "op"),
         (br#"{"op":"jump"}"#, "op"),
         (br#"{"op":"Replace","start":0,"end":0,"text":"a"}"#, "op"),
-        (br#"{"op":"finish","x":1}"#, "op"),
+        (br#"{"op":"Finish"}"#, "op"),
         (
             br#"{"op":"replace","start":0,"end":0,"text":"a","span":[]}"#,
             "field",
         ),
         (br#"{"op":"replace","x":1}"#, "field"),
+        (br#"{"op":"finish","x":1}"#, "field"),
         (
             br#"{"op":"set_span","id":5,"start":0,"end":0,"flags":0,"what":"tag 1","spans":[]}"#,
             "field",

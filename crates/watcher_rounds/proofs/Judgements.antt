@@ -1,14 +1,16 @@
 -- Verdicts of edits that may begin, and of those that may not.
-use Rattle.std.proofs.Common.{◌≡◌, ◌∙◌, ◌||◌, ℕ, ℤ, Bool, true, false, cond, length, refl, sym, ap}
+use Rattle.std.proofs.Common.{◌≡◌, ◌∙◌, ◌||◌, ◌≤◌, ℕ, ℤ, pos, Bool, true, false, cond, length, refl, sym, ap}
 use Rattle.edit_base.specs.declared.rows.Incoming.{Incoming}
 use Rattle.edit_base.specs.declared.verdicts.Verdict.{Verdict}
-use Rattle.edit_base.specs.declared.verdicts.Verdict.TheVariants.{Refused}
+use Rattle.edit_base.specs.declared.verdicts.Verdict.TheVariants.{Done, Refused}
 use Rattle.edit_base.specs.declared.verdicts.Refusal.TheVariants.{Depth, Budget}
 use Rattle.edit_model.specs.declared.steps.Step.{Step}
 use Rattle.edit_model.specs.declared.steps.Step.TheVariants as ask
 use Rattle.edit_model.specs.State.{State}
-use Rattle.edit_model.specs.Verdicts.{judged}
+use Rattle.edit_model.specs.Verdicts.{judged, mark_lines}
 use Rattle.edit_model.specs.Log.{logged}
+use Rattle.edit_model.proofs.Tables.{none_applies}
+use Rattle.edit_model.proofs.Selections.{places_within}
 use Rattle.edit_model.specs.Machine.{Setup, is_too_deep, is_too_many, is_barred, judged_at, as_brought, verdict_at}
 
 -- a replacement's verdict doesn't depend on the number of slots
@@ -16,6 +18,12 @@ pub any_slots : (state : State) (slots : ℕ) (start end : ℤ) (incoming : Inco
     → judged state slots (ask.Replace start end incoming) ≡ verdict → judged state 0 (ask.Replace start end incoming) ≡ verdict
 unfolding judged
 any_slots state slots start end incoming verdict is = is
+
+-- a mark that is done lies in the text
+pub marked_within : (state : State) (slots start end : ℕ) → judged state slots (ask.Mark start end) ≡ Done → end ≤ length state.units
+unfolding judged
+marked_within state slots start end done =
+    let n = none_applies (mark_lines state start end) refl done in (places_within (length state.units) (pos start) (pos end) n.0).1
 
 past_both : (deep many : Bool) (other : Verdict) → (deep || many) ≡ false → cond deep (Refused Depth) (cond many (Refused Budget) other) ≡ other
 past_both true many other none = absurd (cc)

@@ -1,11 +1,14 @@
 //! What is asked of the text: items and edits as steps, and their texts filtered.
 
 ghost use Rattle.std.specs.Prelude.{◌≡◌, ◌≤◌, length, IfOk, if◌then◌else◌};
+ghost use Rattle.edit_base.specs.declared.bounds.TheConstants.Limits.{TEXT};
+ghost use Rattle.edit_model.specs.declared.steps.Step.TheVariants.{Replace};
 ghost use Rattle.edit_model.specs.State.{State, place};
 ghost use Rattle.edit_model.specs.Brought.{IsBrought};
 ghost use Rattle.edit_model.specs.Filtered.{lies_within, filtered, filtered_step};
-ghost use Rattle.edit_model.specs.Fitting.{IsFittingStep, IsFittingItem};
-ghost use Rattle.edit_model.specs.Machine.{alone, asked_by, resolved};
+ghost use Rattle.edit_model.specs.Fitting.{IsFittingStep, IsFittingItem, IsReady};
+ghost use Rattle.edit_model.specs.Laws.{BringsOrdered};
+ghost use Rattle.edit_model.specs.Machine.{alone, asked_by, clamped, resolved};
 
 use edit_base::{Edit, Incoming, Items, NoMemory};
 use edit_model::{Filter, Item, Step};
@@ -13,12 +16,14 @@ use input_filters::filter_all;
 use replace_engine::SpannedText;
 use std::alloc::Global;
 
-/// What an item asks the text for at its turn.
+/// What an item asks the text for at its turn, with the text that stands then.
 #[tactic(auto, unfolding(edit_model::specs::Machine::resolved))]
-pub fn resolve(alloc: Global, item: &Item) -> Result<Step, NoMemory>
-    requires { IsFittingItem item.now }
-    ensures step { (state : State) → IfOk result (λ step. step ≡ resolved state item.now) }
+pub fn resolve(alloc: Global, item: &Item, text: &SpannedText) -> Result<Step, NoMemory>
+    requires fitting { IsFittingItem item.now }
+    requires ready { IsReady text.now.state item.now }
+    ensures step { IfOk result (λ step. step ≡ resolved text.now.state item.now) }
     ensures fitting { IfOk result IsFittingStep }
+    ensures ordered { IfOk result (BringsOrdered text.now.state) }
 {
     match item {
         Item::Edit(edit) => ask(alloc, edit),
@@ -26,12 +31,57 @@ pub fn resolve(alloc: Global, item: &Item) -> Result<Step, NoMemory>
             start,
             end,
             incoming,
-        } => Ok(Step::Replace {
-            start: *start,
-            end: *end,
-            incoming: copy_of(alloc, incoming)?,
-        }),
+        } => replacement(alloc, *start, *end, incoming),
+        Item::Write {
+            start,
+            end,
+            incoming,
+        } => replacement(
+            alloc,
+            clamp(*start, text) as i32,
+            clamp(*end, text) as i32,
+            incoming,
+        ),
+        Item::Cursor { at } => {
+            let at = clamp(*at, text) as i32;
+            Ok(Step::Select { start: at, end: at })
+        }
+        Item::Mark { start, end } => {
+            let (start, end) = (clamp(*start, text), clamp(*end, text));
+            Ok(Step::Mark {
+                start: start.min(end),
+                end: start.max(end),
+            })
+        }
+        Item::Drop => Ok(Step::Drop),
+        Item::Deselect => Ok(Step::Deselect),
     }
+}
+
+// A place of a connection's item, in the text: one before it goes to its start, and one behind it to its end.
+fn clamp(at: i64, text: &SpannedText) -> u32
+    ensures place { result ≡ clamped text.now.state at }
+    ensures limit { result ≤ TEXT }
+{
+    let length = text.len();
+    if at < 0 {
+        return 0;
+    }
+    if at > i64::from(length) {
+        return length;
+    }
+    at as u32
+}
+
+// A replacement by what comes.
+fn replacement(alloc: Global, start: i32, end: i32, incoming: &Incoming) -> Result<Step, NoMemory>
+    ensures { IfOk result (λ step. step ≡ Replace start end incoming.now) }
+{
+    Ok(Step::Replace {
+        start,
+        end,
+        incoming: copy_of(alloc, incoming)?,
+    })
 }
 
 /// What an edit asks the text for.
@@ -39,6 +89,7 @@ pub fn resolve(alloc: Global, item: &Item) -> Result<Step, NoMemory>
 pub fn ask(alloc: Global, edit: &Edit) -> Result<Step, NoMemory>
     ensures step { IfOk result (λ step. step ≡ asked_by edit.now) }
     ensures fitting { IfOk result IsFittingStep }
+    ensures ordered { (state : State) → IfOk result (BringsOrdered state) }
 {
     match edit {
         Edit::Replace { start, end, text } => Ok(Step::Replace {
@@ -60,7 +111,10 @@ pub fn ask(alloc: Global, edit: &Edit) -> Result<Step, NoMemory>
             what: *what,
         }),
         Edit::RemoveSpan { id } => Ok(Step::Remove { id: *id }),
-        Edit::Select { .. } => Ok(Step::Remove { id: 0 }),
+        Edit::Select { start, end } => Ok(Step::Select {
+            start: *start,
+            end: *end,
+        }),
     }
 }
 
@@ -95,9 +149,11 @@ pub fn bring(
     step: &Step,
     text: &SpannedText,
 ) -> Result<Step, NoMemory>
-    requires { IsFittingStep step.now }
+    requires fitting { IsFittingStep step.now }
+    requires ordered { BringsOrdered text.now.state step.now }
     ensures step { IfOk result (λ it. it ≡ filtered_step filters.now text.now.state step.now) }
     ensures fitting { IfOk result IsFittingStep }
+    ensures ordered { IfOk result (BringsOrdered text.now.state) }
 {
     match step {
         Step::Replace {
@@ -123,6 +179,16 @@ pub fn bring(
             what: *what,
         }),
         Step::Remove { id } => Ok(Step::Remove { id: *id }),
+        Step::Select { start, end } => Ok(Step::Select {
+            start: *start,
+            end: *end,
+        }),
+        Step::Deselect => Ok(Step::Deselect),
+        Step::Drop => Ok(Step::Drop),
+        Step::Mark { start, end } => Ok(Step::Mark {
+            start: *start,
+            end: *end,
+        }),
     }
 }
 

@@ -7,6 +7,7 @@ ghost use Rattle.edit_model.specs.WellFormed.{IsSeated};
 ghost use Rattle.edit_model.specs.Verdicts.{judged};
 ghost use Rattle.edit_model.specs.Changed.{stepped, change_of, on_done};
 ghost use Rattle.edit_model.specs.Fitting.{IsFittingStep};
+ghost use Rattle.edit_model.specs.Laws.{BringsOrdered};
 ghost use Rattle.edit_model.specs.Minds.{IsTold};
 ghost use Rattle.edit_model.specs.Events.{IsCallback};
 ghost use Rattle.edit_model.specs.Machine.{tell_after, events};
@@ -50,6 +51,7 @@ pub fn carry_out<S: Shelf, F: Follower, L: Ledger>(
     requires done { found.now.verdict ≡ Done }
     requires verdict { found.now.verdict ≡ judged text.old.state (slot_count round.now) found.now.brought }
     requires fitting { IsFittingStep found.now.brought }
+    requires ordered { BringsOrdered text.old.state found.now.brought }
     requires ready { IsReady round.now.slots.now.items text.old.state (S.minds shelf.old) spent }
     requires followed { F.follows follower.old text.old.state }
     ensures ok { IfOk result (λ told. Led F.takes (setup_of round.now)
@@ -96,6 +98,7 @@ pub fn change<F: Follower, L: Ledger>(
 ) -> Result<(), NoMemory>
     requires done { judged text.old.state slots step.now ≡ Done }
     requires fitting { IsFittingStep step.now }
+    requires ordered { BringsOrdered text.old.state step.now }
     requires followed { F.follows follower.old text.old.state }
     ensures state { OnOk result (text.new.state ≡ stepped text.old.state step.now) }
     ensures effect { OnOk result (text.new.effect ≡ change_of text.old.state step.now) }
@@ -120,6 +123,7 @@ fn do_step<L: Ledger>(
 ) -> Result<(), NoMemory>
     requires done { judged text.old.state slots step.now ≡ Done }
     requires fitting { IsFittingStep step.now }
+    requires ordered { BringsOrdered text.old.state step.now }
     ensures state { OnOk result (text.new.state ≡ stepped text.old.state step.now) }
     ensures effect { OnOk result (text.new.effect ≡ change_of text.old.state step.now) }
     ensures err { OnErr result (text.new.state ≡ text.old.state) }
@@ -144,6 +148,18 @@ fn do_step<L: Ledger>(
         }
         Step::Remove { id } => {
             text.remove_span(*id);
+        }
+        Step::Select { start, end } => {
+            text.select(*start, *end)?;
+        }
+        Step::Deselect => {
+            text.deselect();
+        }
+        Step::Drop => {
+            text.drop_composing()?;
+        }
+        Step::Mark { start, end } => {
+            text.mark_composing(*start, *end)?;
         }
     }
     Ok(())

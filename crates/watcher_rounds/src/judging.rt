@@ -97,6 +97,10 @@ fn length_then(step: &Step, text: &SpannedText) -> u32
         } => length_after(text.len(), *start, *end, incoming.units.len() as u32),
         Step::Set { .. } => text.len(),
         Step::Remove { .. } => text.len(),
+        Step::Select { .. } => text.len(),
+        Step::Deselect => text.len(),
+        Step::Drop => text.len(),
+        Step::Mark { .. } => text.len(),
     }
 }
 
@@ -124,5 +128,9 @@ fn span_count_then(step: &Step, slots: u8, text: &SpannedText) -> u32
         } => text.span_count_then(*start, *end, incoming),
         Step::Set { .. } => text.span_count() + 1,
         Step::Remove { .. } => text.span_count(),
+        Step::Select { .. } => text.span_count() + 2,
+        Step::Deselect => text.span_count(),
+        Step::Drop => text.span_count(),
+        Step::Mark { .. } => text.span_count() + 1,
     }
 }

@@ -4,6 +4,8 @@
 mod asking;
 mod changing;
 mod cuts;
+#[cfg(test)]
+mod item_tests;
 mod judging;
 mod logging;
 mod round;

@@ -5,6 +5,7 @@ ghost use Rattle.edit_model.specs.State.{State};
 ghost use Rattle.edit_model.specs.Verdicts.{judged};
 ghost use Rattle.edit_model.specs.Log.{entry_of};
 ghost use Rattle.edit_model.specs.Fitting.{IsFittingStep};
+ghost use Rattle.edit_model.specs.Laws.{BringsOrdered};
 ghost use Rattle.edit_model.specs.Machine.{is_barred, as_brought, edit_entry};
 ghost use Rattle.watcher_rounds.specs.Rounds.{setup_of, slot_count};
 
@@ -36,9 +37,11 @@ pub fn judge_and_log(
 ) -> Result<Judged, NoMemory>
     requires begins { is_barred round.now.depth depth begun ≡ false }
     requires fitting { IsFittingStep step.now }
+    requires ordered { BringsOrdered text.now.state step.now }
     ensures brought { IfOk result (λ it. it.brought ≡ as_brought (setup_of round.now) step.now text.now.state) }
     ensures verdict { IfOk result (λ it. it.verdict ≡ judged text.now.state (slot_count round.now) it.brought) }
     ensures fitting { IfOk result (λ it. IsFittingStep it.brought) }
+    ensures ordered { IfOk result (λ it. BringsOrdered text.now.state it.brought) }
     ensures log { OnOk result (log.new.items
         ≡ log.old.items ++ edit_entry (setup_of round.now) depth step.now text.now.state begun ∷ []) }
     ensures err { OnErr result (log.new.items ≡ log.old.items) }
@@ -106,6 +109,20 @@ fn entry_of(depth: u32, step: &Step, logged: Logged) -> LogEntry
         Step::Remove { id } => LogEntry::Remove {
             depth,
             id: *id,
+            logged,
+        },
+        Step::Select { start, end } => LogEntry::Select {
+            depth,
+            start: i64::from(*start),
+            end: i64::from(*end),
+            logged,
+        },
+        Step::Deselect => LogEntry::Deselect { depth, logged },
+        Step::Drop => LogEntry::Drop { depth, logged },
+        Step::Mark { start, end } => LogEntry::Mark {
+            depth,
+            start: i64::from(*start),
+            end: i64::from(*end),
             logged,
         },
     }

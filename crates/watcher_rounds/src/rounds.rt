@@ -6,7 +6,8 @@ ghost use Rattle.edit_base.specs.declared.edits.Edit.{Edit as Asked};
 ghost use Rattle.edit_model.specs.Verdicts.{judged};
 ghost use Rattle.edit_model.specs.Changed.{on_done};
 ghost use Rattle.edit_model.specs.Minds.{IsTold};
-ghost use Rattle.edit_model.specs.Fitting.{IsFittingStep, IsFittingItem};
+ghost use Rattle.edit_model.specs.Fitting.{IsFittingStep, IsFittingItem, IsReady as HasTurn};
+ghost use Rattle.edit_model.specs.Laws.{BringsOrdered};
 ghost use Rattle.edit_model.specs.Events.{IsCallback};
 ghost use Rattle.edit_model.specs.Machine.{run_item, do_rest, tell_after, tell_span, rest_of, resolved, verdict_at, events};
 ghost use Rattle.edit_model.specs.WellFormed.{IsSeated};
@@ -29,7 +30,9 @@ use watcher_api::{Answer, Watcher};
 /// Runs one item of a command, with all its callbacks and nested edits, and answers the item's own verdict.
 ///
 /// `slots` has for each slot the place on the shelf of its watcher. `depth` is the greatest depth of a nested edit, and
-/// `spent` is the number of nested edits that have begun in this command. Edits bring their texts through `filters`.
+/// `spent` is the number of nested edits that have begun in this command. Edits bring their texts through `filters`. An
+/// item's places are read at its turn: a connection's go to the start or the end of the text that stands then, and a region
+/// may be marked where none is attached.
 /// What is left behind is what the agenda machine's run of the item leaves: text, minds, log and `spent`. The follower
 /// is told of each change, nested or not, before any watcher is told that it was made, and of nothing else, in order.
 ///
@@ -53,6 +56,7 @@ pub fn apply<F: Follower, L: Ledger>(
     requires seats { IsSeated (length slots.now.items) text.old.state.spans }
     requires follows { F.follows follower.old text.old.state }
     requires item { IsFittingItem item.now }
+    requires ready { HasTurn text.old.state item.now }
     ensures verdict { IfOk result (λ verdict. verdict ≡ verdict_at (setup filters.now slots.now.items depth) 0
         (resolved text.old.state item.now) text.old.state spent.old) }
     ensures ok { OnOk result (Runs F.takes (setup filters.now slots.now.items depth) item.now
@@ -91,6 +95,7 @@ fn do_item<S: Shelf, F: Follower, L: Ledger>(
     steps: &mut Steps<L>,
 ) -> Result<Verdict, NoMemory>
     requires fitting { IsFittingItem item.now }
+    requires turn { HasTurn text.old.state item.now }
     requires ready { IsReady round.now.slots.now.items text.old.state (S.minds shelf.old) spent.old }
     requires limit { round.now.depth ≤ Limits.DEPTH }
     requires followed { F.follows follower.old text.old.state }
@@ -106,7 +111,7 @@ fn do_item<S: Shelf, F: Follower, L: Ledger>(
     ensures verdict { IfOk result (λ verdict. verdict
         ≡ verdict_at (setup_of round.now) 0 (resolved text.old.state item.now) text.old.state spent.old) }
 {
-    let step = resolve(alloc, item)?;
+    let step = resolve(alloc, item, text)?;
     let judged = judge_and_log(alloc, round, &step, 0, *spent, text, log)?;
     set_off(
         alloc, round, &judged, 0, text, shelf, follower, spent, log, steps,
@@ -130,6 +135,7 @@ fn set_off<S: Shelf, F: Follower, L: Ledger>(
 ) -> Result<(), NoMemory>
     requires verdict { found.now.verdict ≡ judged text.old.state (slot_count round.now) found.now.brought }
     requires fitting { IsFittingStep found.now.brought }
+    requires ordered { BringsOrdered text.old.state found.now.brought }
     requires depth { depth ≤ round.now.depth }
     requires ready { IsReady round.now.slots.now.items text.old.state (S.minds shelf.old) spent.old }
     requires limit { round.now.depth ≤ Limits.DEPTH }

@@ -55,6 +55,10 @@ pub fn listeners(
         }
         Step::Set { .. } => Ok(Vec::new(alloc)),
         Step::Remove { .. } => Ok(Vec::new(alloc)),
+        Step::Select { .. } => Ok(Vec::new(alloc)),
+        Step::Deselect => Ok(Vec::new(alloc)),
+        Step::Drop => Ok(Vec::new(alloc)),
+        Step::Mark { .. } => Ok(Vec::new(alloc)),
     }
 }
 

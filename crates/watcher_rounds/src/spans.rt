@@ -6,7 +6,7 @@ ghost use Rattle.edit_model.specs.Rows.{span_of, spans_in};
 ghost use Rattle.edit_model.specs.WellFormed.{IsSeated, IsWellFormed};
 ghost use Rattle.edit_model.specs.Over.{lies_over};
 ghost use Rattle.edit_model.specs.Events.{span_event, callbacks};
-ghost use Rattle.replace_engine.specs.Changes.{effect_of};
+ghost use Rattle.span_changes.specs.Changes.{effect_of};
 ghost use Rattle.moved_rows.specs.Moves.{moved_of};
 ghost use Rattle.watcher_rounds.specs.Seats.{seats_in, slots_beside, told_there, told_moved, seats_told};
 

@@ -4,7 +4,7 @@ ghost use Rattle.std.specs.Prelude.{ℕ, ◌≡◌, ◌≤◌, ◌<◌, ◌+◌,
 ghost use Rattle.std.specs.List.{All};
 ghost use Rattle.edit_base.specs.declared.verdicts.Verdict.TheVariants.{Done};
 ghost use Rattle.edit_model.specs.Verdicts.{judged};
-ghost use Rattle.edit_model.specs.Events.{IsCallback, text_event};
+ghost use Rattle.edit_model.specs.Events.{IsCallback, no_text_event, text_event};
 ghost use Rattle.edit_model.specs.Minds.{IsTold, blank_mind, answer_after};
 ghost use Rattle.edit_model.specs.Fitting.{IsFittingStep};
 ghost use Rattle.edit_model.specs.Machine.{tell_before, tell_changed, tell_after, tell_span, rest_of, mind_in};
@@ -38,18 +38,24 @@ pub fn event_of(step: &Step, depth: u32, slots: u8, text: &SpannedText) -> TextE
             before: place_of(*end) - place_of(*start),
             after: incoming.units.len() as u32,
         },
-        Step::Set { .. } => TextEvent {
-            depth,
-            start: 0,
-            before: 0,
-            after: 0,
-        },
-        Step::Remove { .. } => TextEvent {
-            depth,
-            start: 0,
-            before: 0,
-            after: 0,
-        },
+        Step::Set { .. } => no_text_event(depth),
+        Step::Remove { .. } => no_text_event(depth),
+        Step::Select { .. } => no_text_event(depth),
+        Step::Deselect => no_text_event(depth),
+        Step::Drop => no_text_event(depth),
+        Step::Mark { .. } => no_text_event(depth),
+    }
+}
+
+// Of an edit of spans alone nobody is told as of a text's.
+fn no_text_event(depth: u32) -> TextEvent
+    ensures { result ≡ no_text_event depth }
+{
+    TextEvent {
+        depth,
+        start: 0,
+        before: 0,
+        after: 0,
     }
 }
 

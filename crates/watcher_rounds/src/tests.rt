@@ -1,10 +1,10 @@
 //! Rounds at work: what watchers are told and answer, in which order, and where answers stop.
 
-ghost use Rattle.std.specs.Prelude.{◌≡◌, ◌≤◌, ◌<◌, IfOk};
+ghost use Rattle.std.specs.Prelude.{◌≡◌, ◌≤◌, ◌<◌, true, IfOk};
 ghost use Rattle.std.specs.List.{All};
 ghost use Rattle.edit_model.specs.Brought.{IsBrought};
 ghost use Rattle.edit_model.specs.Faces.{no_ground};
-ghost use Rattle.edit_model.specs.Fitting.{IsFittingItem};
+ghost use Rattle.edit_model.specs.Fitting.{IsFittingItem, IsReady};
 ghost use Rattle.edit_model.specs.State.{empty_state};
 
 use crate::round::{Log, Slots};
@@ -56,15 +56,15 @@ impl Follower for Recorder {
     }
 }
 
-// Incoming units alone.
-fn bringing(rt: &impl Abort, units: Vec<u16>, alloc: Global) -> Incoming
+// Incoming units without spans, with a composing region over them or without one.
+fn bringing(rt: &impl Abort, units: Vec<u16>, composing: bool, alloc: Global) -> Incoming
     ensures { IsBrought result }
 {
     assert!(rt; units.len() <= 65_536);
     Incoming {
         units: Items::from_vec(units),
         spans: Items::from_vec(Vec::new(alloc)),
-        composing: false,
+        composing,
     }
 }
 
@@ -93,14 +93,22 @@ fn bringing_with(
     })
 }
 
-// A replacement with its start, end and text; the same with the id of a span that comes over the first unit; or what is
-// set, with its id, start, end and flags: the seat of the watcher in a slot, or a tag.
+// What is asked: a replacement with its start, end and text; the same with the id of a span that comes over the first
+// unit; what is set, with its id, start, end and flags: the seat of the watcher in a slot, or a tag; a select; and the items
+// of a connection, a text that comes as a composing one among them.
 #[derive(Clone, Copy, Debug)]
-enum Ask {
-    Write(i32, i32, &'static str),
+pub enum Ask {
+    Replace(i32, i32, &'static str),
     Bring(i32, i32, &'static str, u32),
     Seat(u32, i32, i32, u32, u8),
-    Mark(u32, i32, i32, u32),
+    Tag(u32, i32, i32, u32),
+    Select(i32, i32),
+    Write(i64, i64, &'static str),
+    Compose(i64, i64, &'static str),
+    Cursor(i64),
+    Mark(i64, i64),
+    Drop,
+    Deselect,
 }
 
 fn set(id: u32, start: i32, end: i32, flags: u32, what: What) -> Item
@@ -119,12 +127,12 @@ fn item_of(rt: &impl Abort, alloc: Global, ask: Ask) -> Result<Item, NoMemory>
     ensures { IfOk result IsFittingItem }
 {
     match ask {
-        Ask::Write(start, end, brought) => {
+        Ask::Replace(start, end, brought) => {
             let units = units_of(alloc, brought)?;
             Ok(Item::Replace {
                 start,
                 end,
-                incoming: bringing(rt, units, alloc),
+                incoming: bringing(rt, units, false, alloc),
             })
         }
         Ask::Bring(start, end, brought, id) => {
@@ -136,7 +144,43 @@ fn item_of(rt: &impl Abort, alloc: Global, ask: Ask) -> Result<Item, NoMemory>
             })
         }
         Ask::Seat(id, start, end, flags, slot) => Ok(set(id, start, end, flags, What::Watch(slot))),
-        Ask::Mark(id, start, end, flags) => Ok(set(id, start, end, flags, What::Tag(1))),
+        Ask::Tag(id, start, end, flags) => Ok(set(id, start, end, flags, What::Tag(1))),
+        Ask::Select(start, end) => Ok(Item::Edit(Edit::Select { start, end })),
+        Ask::Write(start, end, brought) => written(rt, alloc, start, end, brought, false),
+        Ask::Compose(start, end, brought) => written(rt, alloc, start, end, brought, true),
+        Ask::Cursor(at) => Ok(Item::Cursor { at }),
+        Ask::Mark(start, end) => Ok(Item::Mark { start, end }),
+        Ask::Drop => Ok(Item::Drop),
+        Ask::Deselect => Ok(Item::Deselect),
+    }
+}
+
+// A connection's text.
+fn written(
+    rt: &impl Abort,
+    alloc: Global,
+    start: i64,
+    end: i64,
+    brought: &'static str,
+    composing: bool,
+) -> Result<Item, NoMemory>
+    ensures { IfOk result IsFittingItem }
+{
+    let units = units_of(alloc, brought)?;
+    Ok(Item::Write {
+        start,
+        end,
+        incoming: bringing(rt, units, composing, alloc),
+    })
+}
+
+// Whether the item may have its turn: a region is marked where none is attached.
+fn is_ready(item: &Item, text: &SpannedText) -> bool
+    ensures { result ≡ true → IsReady text.now.state item.now }
+{
+    match item {
+        Item::Mark { .. } => text.composing().is_none(),
+        _ => true,
     }
 }
 
@@ -153,7 +197,7 @@ fn two_slots(len: usize) -> Slots
 
 // Runs items over an empty text, each as a command of its own, with the first two watchers of the shelf in two slots. What
 // is logged of the last stands alone in the log. Answers how many nested edits began in it.
-fn play<F: Follower, L: Ledger>(
+pub fn play<F: Follower, L: Ledger>(
     rt: &impl Abort,
     alloc: Global,
     blank: Blank,
@@ -179,6 +223,7 @@ fn play<F: Follower, L: Ledger>(
         spent = 0;
         log.clear();
         let item = item_of(rt, alloc, *ask)?;
+        assert!(rt; is_ready(&item, text));
         apply(
             alloc,
             text,
@@ -199,15 +244,20 @@ fn play<F: Follower, L: Ledger>(
 // ---- entries
 
 // The depth of an event, its start, and the units before and after.
-type Told = (u32, u32, u32, u32);
+pub type Told = (u32, u32, u32, u32);
 
 // The depth of an event and a span's id, what became of it, its old place and its place.
-type Seen = (u32, u32, SpanChange, (u32, u32), (u32, u32));
+pub type Seen = (u32, u32, SpanChange, (u32, u32), (u32, u32));
 
-// An entry that is wanted: a replacement with its depth, start, end, units and verdict, or a callback with its slot.
+// An entry that is wanted: a replacement with its depth, start, end, units and verdict; a select or a mark with its start,
+// end, verdict and number; another edit with its verdict; or a callback with its slot.
 #[derive(Clone, Copy, Debug)]
-enum Entry {
+pub enum Entry {
     Edit(u32, i64, i64, u32, Verdict),
+    Select(u32, i64, i64, Verdict, u32),
+    Mark(u32, i64, i64, Verdict, u32),
+    Deselect(u32, Verdict),
+    Drop(u32, Verdict),
     Before(u8, Told),
     Changed(u8, Told),
     After(u8, Told),
@@ -246,6 +296,26 @@ fn logged(entry: Entry) -> LogEntry {
             units,
             logged: Logged { verdict, number: 0 },
         },
+        Entry::Select(depth, start, end, verdict, number) => LogEntry::Select {
+            depth,
+            start,
+            end,
+            logged: Logged { verdict, number },
+        },
+        Entry::Mark(depth, start, end, verdict, number) => LogEntry::Mark {
+            depth,
+            start,
+            end,
+            logged: Logged { verdict, number },
+        },
+        Entry::Deselect(depth, verdict) => LogEntry::Deselect {
+            depth,
+            logged: Logged { verdict, number: 0 },
+        },
+        Entry::Drop(depth, verdict) => LogEntry::Drop {
+            depth,
+            logged: Logged { verdict, number: 0 },
+        },
         Entry::Before(slot, told) => LogEntry::Before {
             slot,
             event: event(told),
@@ -266,7 +336,7 @@ fn logged(entry: Entry) -> LogEntry {
 }
 
 // These entries were logged, and no more.
-fn assert_logged(rt: &impl Abort, log: &[LogEntry], want: &[Entry]) {
+pub fn assert_logged(rt: &impl Abort, log: &[LogEntry], want: &[Entry]) {
     assert_eq!(rt; log.len(), want.len());
     for (found, entry) in log.iter().zip(want) {
         assert_eq!(rt; *found, logged(*entry));
@@ -293,7 +363,7 @@ fn is_nested(entry: &LogEntry, verdict: Verdict) -> bool {
 
 // ---- rounds
 
-const WRITTEN: Ask = Ask::Write(0, 0, "x");
+const WRITTEN: Ask = Ask::Replace(0, 0, "x");
 
 const LEFT: Ask = Ask::Seat(10, 0, 0, 18, 0);
 
@@ -449,9 +519,9 @@ fn watchers_are_those_from_before_the_change(rt: HostRuntime) -> Result<(), Fail
     shelf.push(Box::new(rt.alloc(), Note::blank())?)?;
     shelf.push(Box::new(rt.alloc(), Note::blank())?)?;
     let asks = [
-        Ask::Write(0, 0, "ab"),
+        Ask::Replace(0, 0, "ab"),
         Ask::Seat(10, 0, 2, 33, 0),
-        Ask::Write(0, 2, ""),
+        Ask::Replace(0, 2, ""),
     ];
     play::<Unfollowed, Brand>(
         &rt,
@@ -479,9 +549,9 @@ fn spans_are_told_as_removed_moved_and_added(rt: HostRuntime) -> Result<(), Fail
     shelf.push(Box::new(rt.alloc(), Note::blank())?)?;
     shelf.push(Box::new(rt.alloc(), Note::blank())?)?;
     let asks = [
-        Ask::Write(0, 0, "abcde"),
-        Ask::Mark(21, 4, 5, 34),
-        Ask::Mark(20, 1, 3, 33),
+        Ask::Replace(0, 0, "abcde"),
+        Ask::Tag(21, 4, 5, 34),
+        Ask::Tag(20, 1, 3, 33),
         Ask::Seat(10, 0, 5, 18, 0),
         Ask::Bring(0, 3, "x", 20),
     ];
@@ -511,7 +581,7 @@ fn minds_are_kept_from_one_item_to_the_next(rt: HostRuntime) -> Result<(), Fail>
     let mut shelf: Vec<Box<dyn Watcher>> = Vec::new(rt.alloc());
     shelf.push(Box::new(rt.alloc(), pair)?)?;
     shelf.push(Box::new(rt.alloc(), Note::blank())?)?;
-    let asks = [LEFT, Ask::Write(0, 0, "("), Ask::Write(1, 1, ")")];
+    let asks = [LEFT, Ask::Replace(0, 0, "("), Ask::Replace(1, 1, ")")];
     play::<Unfollowed, Brand>(
         &rt,
         rt.alloc(),

@@ -37,7 +37,7 @@ const FAULTY_LINES: [(&str, TraceFault); 9] = [
     ),
     ("[]", TraceFault::NotObject),
     (r#"{"op":"#, TraceFault::Json),
-    (r#"{"op":"finish","x":1}"#, TraceFault::Op),
+    (r#"{"op":"finish","x":1}"#, TraceFault::Field),
     ("\u{0B}", TraceFault::Json),
 ];
 

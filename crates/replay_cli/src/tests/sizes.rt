@@ -10,7 +10,7 @@ use replay_io::{MemorySink, SteadyStore};
 use std::alloc::Global;
 use std::test::Fail;
 
-const HELLO_END: &str = "end\ntext 4 \"hxyo\"\n";
+const HELLO_END: &str = "end\ntext 4 \"hxyo\"\nselection -1 -1\nregion -1 -1\n";
 
 const LONG_LINE: Status = Status::TraceFault {
     line: 1,
@@ -152,13 +152,15 @@ fn spans_stay_within_their_limit(rt: HostRuntime) -> Result<(), Fail> {
         br#"{"op":"replace","start":0,"end":0,"text":"","spans":["4097 0 0 34 tag 0","3 0 0 34 tag 0","4098 0 0 34 tag 0","4099 0 0 34 tag 0"]}
 {"op":"replace","start":0,"end":0,"text":"","spans":["4097 0 0 34 tag 0","4098 0 0 34 tag 0"]}
 {"op":"set_span","id":4099,"start":0,"end":0,"flags":34,"what":"tag 0"}
+{"op":"select","start":0,"end":0}
 "#,
     )?;
     let (status, written) = played(rt.alloc(), trace.as_slice())?;
     assert_eq!(rt; status, Status::Done);
     let wanted = "edit 0 set 4096 0 0 34 done\n\
         > 4095 replace\nedit 0 replace 0 0 0 refused spans-full 4097\n> 4096 replace\nedit 0 replace 0 0 0 done\n\
-        > 4097 set_span\nedit 0 set 4099 0 0 34 refused spans-full 4097\nend\n";
+        > 4097 set_span\nedit 0 set 4099 0 0 34 refused spans-full 4097\n\
+        > 4098 select\nedit 0 select 0 0 refused spans-full 4098\nend\n";
     assert!(rt; has_part(written.as_slice(), wanted.as_bytes()));
     Ok(())
 }
@@ -186,6 +188,6 @@ fn the_text_stays_within_its_limit(rt: HostRuntime) -> Result<(), Fail> {
             .windows(wanted.len())
             .any(|part| part == wanted.as_slice())
     );
-    assert_eq!(rt; written.iter().filter(|byte| **byte == b'\n').count(), 38);
+    assert_eq!(rt; written.iter().filter(|byte| **byte == b'\n').count(), 40);
     Ok(())
 }

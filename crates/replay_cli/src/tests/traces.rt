@@ -13,7 +13,7 @@ const REFUSED_OUTPUT: &str = "> 1 replace\nedit 0 replace 0 0 3 done\n\
     > 2 replace\nedit 0 replace 3 1 0 refused order 3\n\
     > 3 replace\nedit 0 replace 0 99 0 refused beyond 3\n\
     > 4 replace\nedit 0 replace -1 0 0 refused below 3\n\
-    end\ntext 3 \"abc\"\n";
+    end\ntext 3 \"abc\"\nselection -1 -1\nregion -1 -1\n";
 
 // Traces over spans, each with lines that stand in its output.
 const SPANS: [(&str, &str); 10] = [
@@ -157,7 +157,7 @@ const CHECKED: [(&str, &str); 3] = [(HELLO, "ok 3\n"), ("", "ok 0\n"), ("\n \r\n
 #[test]
 fn traces_give_their_whole_output(rt: HostRuntime) -> Result<(), Fail> {
     let cases = [
-        ("", "end\ntext 0 \"\"\n"),
+        ("", "end\ntext 0 \"\"\nselection -1 -1\nregion -1 -1\n"),
         (HELLO, HELLO_OUTPUT),
         (REFUSED, REFUSED_OUTPUT),
     ];

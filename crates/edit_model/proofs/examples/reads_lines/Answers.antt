@@ -14,3 +14,7 @@ returns-clause-lines c = (refl, refl, refl, refl, refl, refl)
 pub returns-clause-spans : goal.returns-clause-spans
 unfolding serde_json_on_literals is_utf8 chars digits words_of read_command
 returns-clause-spans c = (refl, refl)
+
+pub returns-clause-connections : goal.returns-clause-connections
+unfolding serde_json_on_literals is_utf8 chars digits words_of read_command
+returns-clause-connections c = (refl, refl, refl, refl, refl, refl, refl)

@@ -11,12 +11,12 @@ returns-then-is_emptied c =
     let test = is_emptied c.args.start c.args.end c.args.grown in
     let rows = c.args.rows.now in
     first_passes test (spans_of rows) c.loop-place.place (omega (arith, length-map rows.kept (seen rows.gap rows.room))) c.loop-place.invariant
-    (sym (ap test c.seen.ensures) ∙ sym c.is_emptied.ensures ∙ c.if-is_emptied.true)
+    (sym (ap test c.read.ensures.span) ∙ sym c.is_emptied.ensures ∙ c.if-is_emptied.true)
 
 pub loop-place-preserved : goal.loop-place-preserved
 loop-place-preserved c =
     let test = is_emptied c.args.start c.args.end c.args.grown in
-    below_more _ _ c.loop-place.invariant (sym (ap test c.seen.ensures) ∙ sym c.is_emptied.ensures ∙ c.if-is_emptied.false)
+    below_more _ _ c.loop-place.invariant (sym (ap test c.read.ensures.span) ∙ sym c.is_emptied.ensures ∙ c.if-is_emptied.false)
 
 pub returns : goal.returns
 returns c =

@@ -13,5 +13,5 @@ unwrap-requires c =
     let low = c.first_from-low.result in
     let step = c.entry_in-step.result in
     let none = subst (λ l. IfNone step (All (λ x. x ≢ c.args.i) l)) (take_rest by low) c.entry_in-step.ensures.none in
-    found_behind (kept_start c.args.rows.now.kept) (length c.args.rows.now.kept) c.args.i low by step c.requires.all c.requires.place
+    found_behind (kept_start c.args.rows.now.kept) (length by) c.args.i low by step c.requires.placed.all c.requires.place
     (λ k lt. omega (arith, c.first_from-low.ensures.before k lt, c.start_at.ensures)) none

@@ -13,7 +13,7 @@ use Rattle.interval_tree.proofs.query.over.Goals as goal
 
 pub returns-clause-ok : goal.returns-clause-ok
 returns-clause-ok g c =
-    found_over c.args.start c.args.end c.args.pick (spans_of c.args.tree.rows.now) c.args.tree.by_start.now
+    found_over c.args.start c.args.end c.args.pick (spans_of c.args.tree.rows.now) _
     (index_all c.args.tree.rows.now c.args.tree.by_start.now c.args.tree.tops.now c.requires) c.sort.new.rows.items
     (omega (arith, length-map c.args.tree.rows.now.kept (seen c.args.tree.rows.now.gap c.args.tree.rows.now.room), c.in_ok-ask.ensures.few))
     (subst (λ items. IsPermutation items c.sort.new.rows.items) c.in_ok-ask.ensures.ok c.sort.ensures.permutation) c.sort.ensures.rising
@@ -22,5 +22,5 @@ pub returns-clause-orders : goal.returns-clause-orders
 returns-clause-orders g c =
     All-permutation (IsAtOrder (spans_of c.args.tree.rows.now)) c.ask.new.out.items c.sort.new.rows.items c.sort.ensures.permutation
     (subst (All (IsAtOrder (spans_of c.args.tree.rows.now))) (sym c.in_ok-ask.ensures.ok)
-    (found_orders (Over c.args.pick) c.args.start c.args.end (spans_of c.args.tree.rows.now) c.args.tree.by_start.now
+    (found_orders (Over c.args.pick) c.args.start c.args.end (spans_of c.args.tree.rows.now) _
     (index_each c.args.tree.rows.now c.args.tree.by_start.now c.args.tree.tops.now c.requires)))

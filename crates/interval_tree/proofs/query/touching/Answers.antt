@@ -22,13 +22,13 @@ pub returns-clause-ok : goal.returns-clause-ok
 returns-clause-ok g c =
     on_ok_weaker c.ask.result
     (λ is. subst (λ items. IsPermutation (touching c.args.start c.args.end (spans_of c.args.tree.rows.now)) (orders_of items)) (sym is)
-    (found_touching c.args.start c.args.end (spans_of c.args.tree.rows.now) c.args.tree.by_start.now
+    (found_touching c.args.start c.args.end (spans_of c.args.tree.rows.now) _
     (index_all c.args.tree.rows.now c.args.tree.by_start.now c.args.tree.tops.now c.requires)))
     c.ask.ensures.ok
 
 pub returns-clause-orders : goal.returns-clause-orders
 returns-clause-orders g c =
     either_way (All (IsAtOrder (spans_of c.args.tree.rows.now))) c.ask.result c.ask.new.out.items _ c.ask.ensures.ok c.ask.ensures.err
-    (found_orders Touching c.args.start c.args.end (spans_of c.args.tree.rows.now) c.args.tree.by_start.now
+    (found_orders Touching c.args.start c.args.end (spans_of c.args.tree.rows.now) _
     (index_each c.args.tree.rows.now c.args.tree.by_start.now c.args.tree.tops.now c.requires))
     (All-nil (IsAtOrder (spans_of c.args.tree.rows.now)))

@@ -6,6 +6,6 @@ use Rattle.interval_tree.proofs.tally.tally_of.Given as goal
 
 abbrev pub invariant-loop-place : goal.invariant-loop-place
 invariant-loop-place l = record {
-  tally : IsTally (take l.place l.rows.kept) l.tally.paragraphs l.tally.seats.items l.tally.whole;
+  tally : IsTally (take l.place l.rows.kept) l.tally.paragraphs l.tally.composing l.tally.seats.items l.tally.whole;
   ahead : l.tally.forward ≡ list_all is_ahead (take l.place l.rows.kept);
 }

@@ -41,7 +41,7 @@ returns-then-row-removal t c =
     ∙ emptied_cut c.args.rows.now c.args.removal.now.start c.args.removal.now.bound c.args.by_start.now c.args.tops.now c.requires.branch
     (length c.args.by_start.now / 2) (omega arith)
     (grind (arith, nat_tests)) c.requires.forward c.args.removal.now.end c.args.removal.now.grown c.args.best
-    (omega (arith, ap (λ span. span.start) c.seen-row.ensures, c.if-row-removal.true))
+    (omega (arith, ap (λ span. span.start) c.read-row.ensures.span, c.if-row-removal.true))
 
 pub least_emptied-requires : goal.least_emptied-requires
 least_emptied-requires t c =
@@ -60,6 +60,6 @@ pub returns : goal.returns
 returns t c =
     emptied_all c.args.removal.now.start c.args.removal.now.end c.args.removal.now.grown
     (spans_of c.args.rows.now) c.args.by_start.now c.places_before.result.now c.places_behind.result.now
-    (length c.args.by_start.now / 2) c.seen-row.result c.args.best c.least_emptied-first.result c.nearer-second.result c.least_emptied.result
+    (length c.args.by_start.now / 2) c.read-row.result c.args.best c.least_emptied-first.result c.nearer-second.result c.least_emptied.result
     (grind (arith, nat_tests))
-    c.places_before.ensures c.places_behind.ensures c.seen-row.ensures c.least_emptied-first.ensures c.nearer-second.ensures c.least_emptied.ensures
+    c.places_before.ensures c.places_behind.ensures c.read-row.ensures.span c.least_emptied-first.ensures c.nearer-second.ensures c.least_emptied.ensures

@@ -4,7 +4,8 @@ use Rattle.std.proofs.lemmas.List.{length-map}
 use Rattle.edit_model.specs.Replaced.{is_emptied}
 use Rattle.edit_model.specs.Rows.{span_of}
 use Rattle.span_table.specs.Table.{span_at, spans_of}
-use Rattle.replace_engine.proofs.Counted.{kept-more, spans_seen}
+use Rattle.replace_engine.proofs.Counted.{kept-more}
+use Rattle.span_changes.proofs.Lists.{same_seen}
 use Rattle.replace_engine.proofs.arriving.count_kept.Goals as goal
 use Rattle.replace_engine.proofs.arriving.count_kept.Goals.{then-not-is_emptied, else-not-is_emptied}
 
@@ -13,9 +14,9 @@ loop-i-preserved c =
     let cut = c.args.cut.now in
     let rows = c.args.rows.now in
     let is = c.rows-in-loop-i.ensures in
-    let there : is_emptied cut.start cut.end cut.grown (span_of c.row_at.result) ≡ is_emptied cut.start cut.end cut.grown (span_at (spans_of rows) c.loop-i.i) =
+    let there : is_emptied cut.start cut.end cut.grown (span_of c.read.result) ≡ is_emptied cut.start cut.end cut.grown (span_at (spans_of rows) c.loop-i.i) =
     ap (is_emptied cut.start cut.end cut.grown)
-    (c.row_at.ensures.span ∙ ap (λ spans. span_at spans c.loop-i.i) (spans_seen c.rows-in-loop-i.result.now rows is.kept is.gap is.room)) in
+    (c.read.ensures.span ∙ ap (λ spans. span_at spans c.loop-i.i) (same_seen c.rows-in-loop-i.result.now rows is.kept is.gap is.room)) in
     let more = kept-more (is_emptied cut.start cut.end cut.grown) (spans_of rows) c.loop-i.i
     (simp length-map (omega (arith, ap length c.rows.ensures.kept))) c.is_emptied.result c.loop-i.count
     c.loop-i.invariant.count (c.is_emptied.ensures ∙ there) in

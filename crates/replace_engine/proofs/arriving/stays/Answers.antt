@@ -2,13 +2,11 @@
 use Rattle.std.proofs.Common.{◌≡◌, not, sym, ap, ◌∙◌}
 use Rattle.std.specs.Option.{is_some}
 use Rattle.edit_model.specs.State.{Span}
-use Rattle.edit_model.specs.Attached.{has_id}
 use Rattle.edit_model.specs.Replaced.{is_emptied}
 use Rattle.edit_model.specs.Rows.{span_of}
 use Rattle.span_table.specs.Table.{span_at, spans_of}
 use Rattle.replace_engine.proofs.Arrived.{attached-stayed}
-use Rattle.replace_engine.proofs.Counted.{spans_seen}
-use Rattle.replace_engine.proofs.Lists.{first_any}
+use Rattle.span_changes.proofs.Lists.{same_seen}
 use Rattle.replace_engine.proofs.Passing.{absent_pass, distinct_spans, found_passes}
 use Rattle.replace_engine.proofs.arriving.stays.Goals as goal
 
@@ -18,8 +16,8 @@ returns-in-Some c =
     let rows = c.args.rows.now in
     let is = c.rows.ensures in
     let stays = λ (span : Span). not (is_emptied cut.start cut.end cut.grown span) in
-    let there : span_of c.row_at.result ≡ span_at (spans_of rows) c.in-Some.at =
-    c.row_at.ensures.span ∙ ap (λ spans. span_at spans c.in-Some.at) (spans_seen c.rows.result.now rows is.kept is.gap is.room) in
+    let there : span_of c.read.result ≡ span_at (spans_of rows) c.in-Some.at =
+    c.read.ensures.span ∙ ap (λ spans. span_at spans c.in-Some.at) (same_seen c.rows.result.now rows is.kept is.gap is.room) in
     ap not c.is_emptied.ensures ∙ ap stays there
     ∙ sym (found_passes c.args.id stays (spans_of rows) c.in-Some.at (distinct_spans rows is.distinct) (sym c.find.ensures.place ∙ c.in-Some.is))
     ∙ attached-stayed cut c.args.id (spans_of rows)
@@ -29,5 +27,5 @@ returns-in-None c =
     let cut = c.args.cut.now in
     let spans = spans_of c.args.rows.now in
     sym (absent_pass c.args.id (λ span. not (is_emptied cut.start cut.end cut.grown span)) spans
-    (sym (first_any (has_id c.args.id) c.find.result spans c.find.ensures.place) ∙ ap is_some c.in-None.is))
+    (sym c.find.ensures.attached ∙ ap is_some c.in-None.is))
     ∙ attached-stayed cut c.args.id spans

@@ -13,11 +13,11 @@ use Rattle.text_cut.specs.Coming.{all_coming}
 use Rattle.text_cut.specs.Halves.{joined}
 use Rattle.replace_engine.specs.Arrivals.{arrivals}
 use Rattle.replace_engine.specs.Exchange.{comes, stays}
-use Rattle.replace_engine.specs.Rows.{state_with}
+use Rattle.span_changes.specs.Rows.{state_with}
 use Rattle.replace_engine.proofs.Cuts.{cut_comes, cut_shifts, cut_stays}
-use Rattle.replace_engine.proofs.Lists.{length-spans_of}
-use Rattle.replace_engine.proofs.MovedLaws.{all_placed, moved_tells}
-use Rattle.replace_engine.proofs.Spans.{effect_from}
+use Rattle.span_changes.proofs.Lists.{length-spans_of}
+use Rattle.span_changes.proofs.MovedLaws.{all_placed, moved_tells}
+use Rattle.span_changes.proofs.Spans.{effect_from}
 use Rattle.replace_engine.proofs.exchanging.exchange_spans.Given as given
 use Rattle.replace_engine.proofs.exchanging.exchange_spans.Goals as goal
 

@@ -4,7 +4,7 @@ use Rattle.std.proofs.lemmas.Bool.{le-ltb}
 use Rattle.edit_model.specs.Verdicts.{first_of}
 use Rattle.text_cut.specs.Halves.{joined}
 use Rattle.span_table.specs.Table.{spans_of}
-use Rattle.replace_engine.specs.Rows.{state_with}
+use Rattle.span_changes.specs.Rows.{state_with}
 use Rattle.replace_engine.specs.Lines.{exchange_lines}
 use Rattle.text_cut.specs.Coming.{all_coming}
 use Rattle.replace_engine.proofs.Tables.{verdict-cut}

@@ -1,15 +1,15 @@
 use Rattle.std.proofs.Common.{◌∙◌, ap, length, not, arith}
 use Rattle.edit_model.specs.Replaced.{is_emptied}
 use Rattle.span_table.specs.Table.{span_at, spans_of}
-use Rattle.replace_engine.proofs.Lists.{length-spans_of, same_seen}
-use Rattle.replace_engine.proofs.MovingParted.{distinct_kept, kept_all, parted_more, removed_few, rest_few}
+use Rattle.span_changes.proofs.Lists.{length-spans_of, same_seen}
+use Rattle.span_changes.proofs.Parted.{distinct_kept, kept_all, parted_more, removed_few, rest_few}
 use Rattle.replace_engine.proofs.moving.part_rows.Goals as goal
 
 pub part_row-requires-clause-rest_room : goal.part_row-requires-clause-rest_room
 part_row-requires-clause-rest_room g c =
     let all = length-spans_of c.args.rows.now in
     let here = ap length c.rows.ensures.kept in
-    let few = rest_few c.args.start c.args.end c.args.grown (spans_of c.args.rows.now) c.loop-i.i c.loop-i.rest.items c.loop-i.removed.items
+    let few = rest_few (is_emptied c.args.start c.args.end c.args.grown) (spans_of c.args.rows.now) c.loop-i.i c.loop-i.rest.items c.loop-i.removed.items
     (omega arith) c.loop-i.invariant.parted in
     omega (arith, c.loop-i.rest.ok.0)
 
@@ -17,7 +17,7 @@ pub part_row-requires-clause-room : goal.part_row-requires-clause-room
 part_row-requires-clause-room g c =
     let all = length-spans_of c.args.rows.now in
     let here = ap length c.rows.ensures.kept in
-    let few = removed_few c.args.start c.args.end c.args.grown (spans_of c.args.rows.now) c.loop-i.i c.loop-i.rest.items c.loop-i.removed.items
+    let few = removed_few (is_emptied c.args.start c.args.end c.args.grown) (spans_of c.args.rows.now) c.loop-i.i c.loop-i.rest.items c.loop-i.removed.items
     (omega arith) c.loop-i.invariant.parted in
     omega (arith, c.loop-i.removed.ok.0)
 
@@ -28,7 +28,7 @@ loop-i-preserved g c =
     let same = same_seen c.rows-in-loop-i.result.now c.args.rows.now
     c.rows-in-loop-i.ensures.kept c.rows-in-loop-i.ensures.gap c.rows-in-loop-i.ensures.room in
     record {
-      parted = parted_more c.args.start c.args.end c.args.grown (spans_of c.args.rows.now) c.loop-i.i c.loop-i.rest.items c.loop-i.removed.items
+      parted = parted_more (is_emptied c.args.start c.args.end c.args.grown) (spans_of c.args.rows.now) c.loop-i.i c.loop-i.rest.items c.loop-i.removed.items
           c.row-row.result c.loop-i.invariant.parted (omega arith)
           (c.row-row.ensures.span ∙ ap (λ spans. span_at spans c.loop-i.i) same) c.row-row.ensures.order
           c.part_row.new.rest.items c.part_row.new.removed.items c.part_row.ensures.rest c.part_row.ensures.removed;
@@ -41,7 +41,7 @@ pub returns-clause-fewer : goal.returns-clause-fewer
 returns-clause-fewer g c =
     let all = length-spans_of c.args.rows.now in
     let here = ap length c.rows.ensures.kept in
-    let few = rest_few c.args.start c.args.end c.args.grown (spans_of c.args.rows.now) c.loop-i.i c.loop-i.rest.items c.loop-i.removed.items
+    let few = rest_few (is_emptied c.args.start c.args.end c.args.grown) (spans_of c.args.rows.now) c.loop-i.i c.loop-i.rest.items c.loop-i.removed.items
     (omega arith) c.loop-i.invariant.parted in
     omega (arith, c.loop-i.rest.ok.0)
 
@@ -51,5 +51,5 @@ returns-clause-distinct g c =
     let here = ap length c.rows.ensures.kept in
     distinct_kept (λ span. not (is_emptied c.args.start c.args.end c.args.grown span)) c.args.rows.now.gap c.args.rows.now.room c.args.rows.now.kept
     c.loop-i.rest.items c.rows.ensures.distinct
-    (kept_all c.args.start c.args.end c.args.grown (spans_of c.args.rows.now) c.loop-i.i c.loop-i.rest.items c.loop-i.removed.items
+    (kept_all (is_emptied c.args.start c.args.end c.args.grown) (spans_of c.args.rows.now) c.loop-i.i c.loop-i.rest.items c.loop-i.removed.items
     (omega arith) c.loop-i.invariant.parted)

@@ -17,7 +17,7 @@ pub run_trace-requires-clause-on_shelf : goal.run_trace-requires-clause-on_shelf
 run_trace-requires-clause-on_shelf g c =
     taken-on_shelf c.in-Ok.settings.watchers _ _ c.in-Ok-load_shelf.slots.items c.in-Ok-load_shelf.ensures.ok.1 c.in-Ok-load_shelf.ensures.minds
 
-pub returns-clause-asks : goal.returns-clause-asks
-returns-clause-asks g c =
+pub returns-in-Ok-load_shelf-clause-asks : goal.returns-in-Ok-load_shelf-clause-asks
+returns-in-Ok-load_shelf-clause-asks g c =
     asks-both c.args.task (option_map (λ name. name.now) c.args.settings) c.args.trace.now c.in-Ok.settings c.run_trace.result _ _ _ c.in-Ok.ensures.asks
     c.run_trace.ensures.asks

@@ -121,6 +121,9 @@ do_edit-returns-then-is_barred-clause-ok g t c others =
     c.log_barred.new.log.items a.spent.now a.follower.now c.in_ok-step.ensures.step (c.in_ok-log_barred.ensures.log a.text.now.state)
     (sym c.is_barred.ensures.barred ∙ c.if-is_barred.true)
 
+pub do_edit-judge_and_log-requires-clause-ordered : goal.do_edit-judge_and_log-requires-clause-ordered
+do_edit-judge_and_log-requires-clause-ordered g t c = c.in_ok-step.ensures.ordered c.args.text.now.state
+
 pub do_edit-returns-in_err-judged-clause-err : goal.do_edit-returns-in_err-judged-clause-err
 do_edit-returns-in_err-judged-clause-err g t c others =
     let a = c.args in

@@ -29,7 +29,7 @@ returns-in_err-set_off-clause-err g c =
     let judged = c.in_ok-judged.ensures in
     on_err c.from_residual-in_err-set_off.result
     (passed_item (setup_of a.round.now) a.item.now c.in_ok-step.step c.in_ok-judged.judged.brought c.in_ok-judged.judged.verdict a.text.now.state
-    (g.S.Shelf.minds a.shelf.now) a.log.now.items c.judge_and_log.new.log.items a.spent.now (c.in_ok-step.ensures.step a.text.now.state) judged.log
+    (g.S.Shelf.minds a.shelf.now) a.log.now.items c.judge_and_log.new.log.items a.spent.now c.in_ok-step.ensures.step judged.log
     (own-let_in a.round.now.depth a.spent.now) judged.brought judged.verdict c.in_err-set_off.ensures.err)
 
 pub returns-clause-ok : goal.returns-clause-ok
@@ -37,7 +37,7 @@ returns-clause-ok g c =
     let a = c.args in
     let judged = c.in_ok-judged.ensures in
     led_item (setup_of a.round.now) a.item.now c.in_ok-step.step c.in_ok-judged.judged.brought c.in_ok-judged.judged.verdict a.text.now.state
-    (g.S.Shelf.minds a.shelf.now) a.log.now.items c.judge_and_log.new.log.items a.spent.now (c.in_ok-step.ensures.step a.text.now.state) judged.log
+    (g.S.Shelf.minds a.shelf.now) a.log.now.items c.judge_and_log.new.log.items a.spent.now c.in_ok-step.ensures.step judged.log
     (own-let_in a.round.now.depth a.spent.now) judged.brought judged.verdict c.in_ok-set_off.ensures.ok
 
 pub returns-clause-verdict : goal.returns-clause-verdict
@@ -45,4 +45,4 @@ returns-clause-verdict g c =
     let a = c.args in
     let judged = c.in_ok-judged.ensures in
     verdict-found (setup_of a.round.now) 0 c.in_ok-step.step _ c.in_ok-judged.judged.brought a.text.now.state a.spent.now c.in_ok-judged.judged.verdict
-    (own-let_in a.round.now.depth a.spent.now) (c.in_ok-step.ensures.step a.text.now.state) judged.brought judged.verdict
+    (own-let_in a.round.now.depth a.spent.now) c.in_ok-step.ensures.step judged.brought judged.verdict

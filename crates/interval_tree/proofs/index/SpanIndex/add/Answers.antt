@@ -1,61 +1,51 @@
--- There is room in each list, and the place and the id are new.
-use Rattle.std.proofs.Common.{ap, length, sym, subst, ◌∙◌, arith}
-use Rattle.interval_tree.proofs.IndexPlaces.{ids_more, long_places, places_added}
-use Rattle.interval_tree.proofs.IndexWhole.{index_written, written}
-use Rattle.interval_tree.proofs.TallyMore.{ahead_more, paragraphs_most, row_added}
-use Rattle.interval_tree.specs.Kinds.{IsTally}
+-- There is room in each list, and the id is new; the row stands apart.
+use Rattle.std.proofs.Common.{ap, length, length-append, sym, subst, ◌∙◌, arith}
+use Rattle.interval_tree.proofs.IndexPlaces.{ids_more}
+use Rattle.interval_tree.proofs.Placed.{ids_apart, index_apart}
+use Rattle.interval_tree.proofs.TallyMore.{ahead_more, counted_most, row_added}
+use Rattle.interval_tree.specs.Kinds.{IsTally, is_composing_row, is_paragraph_row}
 use Rattle.interval_tree.proofs.IndexSeen.{spans_alike}
 use Rattle.interval_tree.specs.Ids.{HaveDistinctIds}
 use Rattle.edit_model.specs.Attached.{is_attached}
 use Rattle.edit_model.specs.Rows.{span_of}
 use Rattle.interval_tree.proofs.index.SpanIndex.add.Goals as goal
 
-pub push_in_room-requires : goal.push_in_room-requires
-push_in_room-requires c =
-    let starts = long_places _ _ c.self.invariant.index.all in
-    omega (arith, starts, ap (λ rows. rows.spare) c.self.view_is, c.in_ok-reserve.ensures.ok, c.self.inside.by_start.ok.0)
+pub count-requires-clause-paragraphs : goal.count-requires-clause-paragraphs
+count-requires-clause-paragraphs c =
+    let most = counted_most is_paragraph_row c.self.inside.rows.kept in
+    omega (arith, most, c.self.invariant.whole.tally.counted, c.requires.bound, ap (λ rows. length rows.kept) c.self.view_is, ap length c.reserve.ensures.kept)
 
-pub push_in_room-requires-2 : goal.push_in_room-requires-2
-push_in_room-requires-2 c =
-    let starts = long_places _ _ c.self.invariant.index.all in
-    omega (arith, starts, c.self.invariant.index.long, ap (λ rows. rows.spare) c.self.view_is, c.in_ok-reserve.ensures.ok, c.self.inside.tops.ok.0)
-
-pub settle-requires-clause-all : goal.settle-requires-clause-all
-settle-requires-clause-all c =
-    places_added c.self.inside.rows.kept _ _ c.count-place.result _ _ _ c.self.invariant.index.all c.count-place.ensures.count
-    c.in_ok-add.ensures.ok c.push_in_room.ensures.items c.deref_mut.ensures.value
-
-pub insert_by_id-requires-clause-distinct : goal.insert_by_id-requires-clause-distinct
-insert_by_id-requires-clause-distinct c =
-    let index = c.self.inside in
-    let spans = spans_alike index.rows.gap index.rows.room index.rows.kept _ _ _
-    (ap (λ rows. rows.gap) c.self.view_is ∙ c.reserve.ensures.gap) (ap (λ rows. rows.room) c.self.view_is ∙ c.reserve.ensures.room)
-    (ap (λ rows. rows.kept) c.self.view_is ∙ c.reserve.ensures.kept) in
-    subst HaveDistinctIds (sym c.in_ok-add.ensures.ok)
-    (ids_more index.rows.gap index.rows.room index.rows.kept (span_of c.args.row.now)
-    (ap (is_attached c.args.row.now.id) spans ∙ c.requires.id) c.self.invariant.ids.distinct)
-
-pub insert_by_id-requires-clause-room : goal.insert_by_id-requires-clause-room
-insert_by_id-requires-clause-room c =
-    let ids = long_places _ _ c.self.invariant.ids.all in
-    omega (arith, ids, ap (λ rows. rows.spare) c.self.view_is, c.in_ok-reserve.ensures.ok, c.self.inside.by_id.ok.0)
-
-pub count-requires : goal.count-requires
-count-requires c =
-    let most = paragraphs_most c.self.inside.rows.kept in
-    omega (arith, most, c.self.invariant.tally.counted, c.requires.bound, ap (λ rows. length rows.kept) c.self.view_is, ap length c.reserve.ensures.kept)
+pub count-requires-clause-composing : goal.count-requires-clause-composing
+count-requires-clause-composing c =
+    let most = counted_most is_composing_row c.self.inside.rows.kept in
+    omega (arith, most, c.self.invariant.whole.tally.composed, c.requires.bound, ap (λ rows. length rows.kept) c.self.view_is, ap length c.reserve.ensures.kept)
 
 pub invariant_of-self-2 : goal.invariant_of-self-2
 invariant_of-self-2 c =
-    let kept = c.self.inside.rows.kept in
+    let index = c.self.inside in
+    let kept = index.rows.kept in
     let new = c.count.new.self in
-    let added = row_added kept _ _ c.kept.result c.count-place.result c.in_ok-add.ensures.ok c.count-place.ensures.count c.kept.ensures.row in
+    let more = c.in_ok-add.ensures.ok in
+    let added = row_added kept _ _ c.kept.result c.count-place.result more c.count-place.ensures.count c.kept.ensures.row in
+    let spans = spans_alike index.rows.gap index.rows.room index.rows.kept _ _ _
+    (ap (λ rows. rows.gap) c.self.view_is ∙ c.reserve.ensures.gap) (ap (λ rows. rows.room) c.self.view_is ∙ c.reserve.ensures.room)
+    (ap (λ rows. rows.kept) c.self.view_is ∙ c.reserve.ensures.kept) in
+    let distinct = subst HaveDistinctIds (sym more)
+    (ids_more index.rows.gap index.rows.room index.rows.kept (span_of c.args.row.now)
+    (ap (is_attached c.args.row.now.id) spans ∙ c.requires.id) c.self.invariant.whole.ids.distinct) in
+    let longer = ap length more ∙ length-append kept _ in
+    let spare = ap (λ rows. rows.spare) c.self.view_is in
     record {
-      index = index_written _ _ _ _ _
-          (written _ _ _ (omega (arith, ap length c.deref_mut.ensures.value, c.push_in_room.new.list.ok.0)))
-          (written _ _ _ (omega (arith, ap length c.deref_mut-2.ensures.value, c.push_in_room-2.new.list.ok.0))) c.settle.ensures;
-      ids = c.insert_by_id.ensures.ids;
-      tally = subst (λ rows. IsTally rows new.paragraphs new.seats.items new.whole) (sym added)
-          (c.count.ensures.tally kept (sym c.count-place.ensures.count) c.self.invariant.tally);
-      ahead = ahead_more kept _ c.kept.result _ _ added c.count.ensures.ahead c.self.invariant.ahead;
+      whole = record {
+        index = index_apart _ c.place_last.ensures.whole more c.place_last.ensures.index;
+        ids = ids_apart _ c.place_last_id.ensures.whole more distinct c.place_last_id.ensures.ids;
+        tally = subst (λ rows. IsTally rows new.paragraphs new.composing new.seats.items new.whole) (sym added)
+            (c.count.ensures.tally kept (sym c.count-place.ensures.count) c.self.invariant.whole.tally);
+        ahead = ahead_more kept _ c.kept.result _ _ added c.count.ensures.ahead c.self.invariant.whole.ahead;
+      };
+      places = record {
+        by_start = omega (arith, longer, spare, c.in_ok-reserve.ensures.ok, c.place_last.ensures.starts);
+        over = omega (arith, longer, spare, c.in_ok-reserve.ensures.ok, c.place_last.ensures.tops);
+        by_id = omega (arith, longer, spare, c.in_ok-reserve.ensures.ok, c.place_last_id.ensures.capacity);
+      };
     }

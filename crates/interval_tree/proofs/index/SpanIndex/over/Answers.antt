@@ -10,6 +10,6 @@ returns-then-has_few-clause-ticks g c =
     let rows = c.self.inside.rows in
     subst (λ seen. IsWithin c.args.qs c.args.qe (spans_of seen) (c.seats_over.new.steps - c.args.steps.now)) c.self.view_is
     (seats_within c.args.qs c.args.qe rows.gap rows.room rows.kept c.len.result c.args.steps.now _
-    (c.len.ensures.value ∙ ap length (c.self.invariant.tally.listed c.if-self.true))
+    (c.len.ensures.value ∙ ap length (c.self.invariant.whole.tally.listed c.if-self.true))
     (λ h below. c.has_few.ensures.0 c.if-has_few.true h (subst (λ n. n < 2 ^ h) (sym c.count.ensures.count) below))
     (c.seats_over.ensures.ticks ∙ ap (λ n. c.args.steps.now + n) (ap length c.deref.ensures.0 ∙ sym c.len.ensures.value)))

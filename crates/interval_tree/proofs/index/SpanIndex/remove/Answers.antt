@@ -1,29 +1,31 @@
--- Each list loses one place, and the ids that are left differ.
-use Rattle.std.proofs.Common.{◌<◌, ap, refl, ◌∙◌, length, arith}
+-- Each list loses one place, or stays where the row stood apart; the ids that are left differ.
+use Rattle.std.proofs.Common.{◌<◌, ap, ◌∙◌, length, arith}
 use Rattle.span_table.specs.Table.{spans_of, without_at}
-use Rattle.interval_tree.proofs.IndexPlaces.{long_places, places_read}
-use Rattle.interval_tree.proofs.IndexRemoved.{ids_removed}
+use Rattle.interval_tree.proofs.IndexRemoved.{ids_left}
 use Rattle.interval_tree.proofs.IndexSeen.{spans_without}
+use Rattle.interval_tree.proofs.WindowRemoved.{length_after}
 use Rattle.interval_tree.proofs.index.SpanIndex.remove.Goals as goal
 
-pub take_out-requires-clause-within : goal.take_out-requires-clause-within
-take_out-requires-clause-within c =
-    let ids = long_places _ _ c.self.invariant.ids.all in
-    omega (arith, ids, ap (λ rows. length rows.kept) c.self.view_is, c.requires, c.self.inside.by_id.ok.0)
-
-pub take_out-requires-clause-all : goal.take_out-requires-clause-all
-take_out-requires-clause-all c =
-    let ids = long_places _ _ c.self.invariant.ids.all in
-    places_read _ _ _ _ c.self.invariant.ids.all (omega (arith, ids, c.self.inside.by_id.ok.0)) refl
+pub take_out_within-requires : goal.take_out_within-requires
+take_out_within-requires c = c.self.invariant.whole.ids.placed.all
 
 pub invariant_of-self : goal.invariant_of-self
 invariant_of-self c =
-    let within : c.args.i < length c.self.inside.rows.kept = omega (arith, ap (λ rows. length rows.kept) c.self.view_is, c.requires) in
+    let index = c.self.inside in
+    let within : c.args.i < length index.rows.kept = omega (arith, ap (λ rows. length rows.kept) c.self.view_is, c.requires) in
+    let fewer = ap length c.remove_row.ensures.kept ∙ length_after c.args.i index.rows.kept within in
     record {
-      index = c.remove_row.ensures.index;
-      ids = ids_removed c.args.i c.self.invariant.ids within c.remove_row.ensures.kept c.take_out.ensures.taken;
-      tally = c.tally_of-self-inside.ensures.tally;
-      ahead = c.tally_of-self-inside.ensures.ahead;
+      whole = record {
+        index = c.remove_row.ensures.index;
+        ids = ids_left c.args.i c.self.invariant.whole.ids within c.remove_row.ensures.kept c.take_out_within.ensures.within c.take_out_within.ensures.apart;
+        tally = c.remove.ensures.tally index.rows.kept within c.kept-row.ensures.row c.remove_row.ensures.kept c.self.invariant.whole.tally;
+        ahead = c.remove.ensures.ahead index.rows.kept c.remove_row.ensures.kept c.self.invariant.whole.ahead;
+      };
+      places = record {
+        by_start = omega (arith, fewer, c.self.invariant.places.by_start, c.remove_row.ensures.starts);
+        over = omega (arith, fewer, c.self.invariant.places.over, c.remove_row.ensures.tops);
+        by_id = omega (arith, fewer, c.self.invariant.places.by_id, c.take_out_within.ensures.capacity);
+      };
     }
 
 pub returns-clause-spans : goal.returns-clause-spans

@@ -1,17 +1,25 @@
 -- Each list has room for what is given, and what is given has ids that differ.
-use Rattle.std.proofs.Common.{ap, sym, subst, ◌∙◌, length, arith}
+use Rattle.std.proofs.Common.{◌≡◌, List, map, ap, sym, subst, ◌∙◌, length, arith}
+use Rattle.std.proofs.lemmas.List.{length-map}
+use Rattle.edit_base.specs.declared.rows.SpanRow.{SpanRow}
+use Rattle.edit_model.specs.State.{Span}
+use Rattle.edit_model.specs.Rows.{span_of, spans_in}
+use Rattle.span_table.specs.declared.kept.KeptRow.{KeptRow}
 use Rattle.std.specs.List.{IsDistinct}
 use Rattle.interval_tree.specs.Ids.{ids_of, same_number}
-use Rattle.interval_tree.proofs.IndexPlaces.{ids_listed, long_places, range_long}
+use Rattle.interval_tree.proofs.IndexPlaces.{ids_listed, range_long}
+use Rattle.interval_tree.proofs.Placed.{number_placed}
 use Rattle.interval_tree.proofs.index.SpanIndex.set_rows.Goals as goal
+
+kept_long : (f : Span → KeptRow) (kept : List KeptRow) (rows : List SpanRow) → kept ≡ map f (spans_in rows) → length kept ≡ length rows
+kept_long f kept rows is = ap length is ∙ length-map (spans_in rows) f ∙ length-map rows span_of
 
 pub number-requires : goal.number-requires
 number-requires g c =
-    let starts = long_places _ _ c.self-2.invariant.index.all in
     let lists = c.self-2.inside.by_start.ok in
     omega (
       arith,
-      starts,
+      c.self-2.invariant.places.by_start,
       lists.0,
       lists.1,
       ap (λ rows. rows.spare) c.self-2.view_is,
@@ -25,12 +33,10 @@ number-requires g c =
 
 pub lengthen-requires : goal.lengthen-requires
 lengthen-requires g c =
-    let starts = long_places _ _ c.self-2.invariant.index.all in
     let lists = c.self-2.inside.tops.ok in
     omega (
       arith,
-      starts,
-      c.self-2.invariant.index.long,
+      c.self-2.invariant.places.over,
       lists.0,
       lists.1,
       ap (λ rows. rows.spare) c.self-2.view_is,
@@ -44,11 +50,10 @@ lengthen-requires g c =
 
 pub number-requires-2 : goal.number-requires-2
 number-requires-2 g c =
-    let ids = long_places _ _ c.self-2.invariant.ids.all in
     let lists = c.self-2.inside.by_id.ok in
     omega (
       arith,
-      ids,
+      c.self-2.invariant.places.by_id,
       lists.0,
       lists.1,
       ap (λ rows. rows.spare) c.self-2.view_is,
@@ -59,6 +64,14 @@ number-requires-2 g c =
       ap length c.reserve.ensures.kept,
       c.in_ok-reserve.ensures.ok,
     )
+
+pub arranged-self-inside-requires-clause-starts : goal.arranged-self-inside-requires-clause-starts
+arranged-self-inside-requires-clause-starts g c =
+    number_placed _ (length c.args.rows.now) _ (kept_long _ _ c.args.rows.now c.refill.ensures.kept) (c.deref_mut.ensures.value ∙ c.number.ensures.items)
+
+pub arranged-self-inside-requires-clause-ids : goal.arranged-self-inside-requires-clause-ids
+arranged-self-inside-requires-clause-ids g c =
+    number_placed _ (length c.args.rows.now) _ (kept_long _ _ c.args.rows.now c.refill.ensures.kept) (c.deref_mut-3.ensures.value ∙ c.number-2.ensures.items)
 
 pub arranged-self-inside-requires-clause-long : goal.arranged-self-inside-requires-clause-long
 arranged-self-inside-requires-clause-long g c =
@@ -72,16 +85,12 @@ arranged-self-inside-requires-clause-distinct g c =
 
 pub returns-clause-spare : goal.returns-clause-spare
 returns-clause-spare g c =
-    let starts = long_places _ _ c.self-2.invariant.index.all in
-    let ids = long_places _ _ c.self-2.invariant.ids.all in
     let by_start = c.self-2.inside.by_start.ok in
     let tops = c.self-2.inside.tops.ok in
     let by_id = c.self-2.inside.by_id.ok in
     omega (
       arith,
-      starts,
-      ids,
-      c.self-2.invariant.index.long,
+      c.self-2.invariant.whole.index.long,
       by_start.0,
       by_start.1,
       tops.0,

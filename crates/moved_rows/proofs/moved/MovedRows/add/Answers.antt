@@ -11,7 +11,7 @@ pub returns-clause-before : goal.returns-clause-before
 returns-clause-before c =
     let it = c.self.inside in
     let row = kept_span it.rows.gap it.rows.room (span_of c.args.row.now) in
-    ap (λ kept. befores kept c.push_within.new.olds.items it.stamp it.gap it.room it.stood) c.in_ok-add.ensures.ok
+    ap (λ kept. befores kept c.push_within.new.list.items it.stamp it.gap it.room it.stood) c.in_ok-add.ensures.ok
     ∙ ap (λ olds. befores (it.rows.kept ++ row ∷ []) olds it.stamp it.gap it.room it.stood)
     (c.push_within.ensures.items ∙ ap (λ olds. olds ++ c.no_old.result ∷ []) c.in_ok-reserve.ensures.items)
     ∙ befores_same (it.rows.kept ++ row ∷ []) it.rows.kept (it.olds.items ++ c.no_old.result ∷ []) it.olds.items it.stamp it.gap it.room it.stood
@@ -25,7 +25,7 @@ pub invariant_of-self-2 : goal.invariant_of-self-2
 invariant_of-self-2 c =
     let it = c.self.inside in
     let row = kept_span it.rows.gap it.rows.room (span_of c.args.row.now) in
-    subst (λ kept. AreNoted kept c.push_within.new.olds.items it.stamp it.gap it.room it.stood) (sym c.in_ok-add.ensures.ok)
+    subst (λ kept. AreNoted kept c.push_within.new.list.items it.stamp it.gap it.room it.stood) (sym c.in_ok-add.ensures.ok)
     (subst (λ olds. AreNoted (it.rows.kept ++ row ∷ []) olds it.stamp it.gap it.room it.stood)
     (sym (c.push_within.ensures.items ∙ ap (λ olds. olds ++ c.no_old.result ∷ []) c.in_ok-reserve.ensures.items))
     (noted_more it.rows.kept it.olds.items row c.no_old.result it.stamp it.gap it.room it.stood c.self.invariant c.no_old.ensures))

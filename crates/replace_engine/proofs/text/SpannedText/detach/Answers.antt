@@ -4,7 +4,7 @@ use Rattle.edit_model.specs.declared.steps.Step.TheVariants as step
 use Rattle.edit_model.specs.Changed.{stepped}
 use Rattle.edit_model.proofs.EditedStates.{well_formed-stepped}
 use Rattle.edit_model.proofs.AttachedSpans.{seated-without_span}
-use Rattle.replace_engine.specs.Rows.{state_with}
+use Rattle.span_changes.specs.Rows.{state_with}
 use Rattle.replace_engine.proofs.Sound.{formed_as, room_kept, seated_as}
 use Rattle.replace_engine.proofs.text.SpannedText.detach.Goals as goal
 

@@ -11,14 +11,14 @@ use Rattle.edit_model.proofs.Splices.{length-spliced}
 use Rattle.span_table.specs.Table.{spans_of}
 use Rattle.text_cut.specs.Coming.{all_coming}
 use Rattle.replace_engine.specs.declared.exchanging.Exchange.{Exchange}
-use Rattle.replace_engine.specs.Changes.{effect_of}
+use Rattle.span_changes.specs.Changes.{effect_of}
 use Rattle.replace_engine.specs.Exchange.{comes}
-use Rattle.replace_engine.specs.Rows.{state_with}
+use Rattle.span_changes.specs.Rows.{state_with}
 use Rattle.replace_engine.proofs.Exchanged.{few_come}
-use Rattle.replace_engine.proofs.Lists.{on_err, same_seen}
-use Rattle.replace_engine.proofs.MovedLaws.{still_tells}
+use Rattle.span_changes.proofs.Lists.{on_err, same_seen}
+use Rattle.span_changes.proofs.MovedLaws.{still_tells}
 use Rattle.replace_engine.proofs.Sound.{formed_as, room_kept, seated_as, told_still}
-use Rattle.replace_engine.proofs.Spans.{effect_from}
+use Rattle.span_changes.proofs.Spans.{effect_from}
 use Rattle.replace_engine.proofs.text.SpannedText.exchange.Given as given
 use Rattle.replace_engine.proofs.text.SpannedText.exchange.Goals as goal
 

@@ -1,7 +1,7 @@
 -- The state is that of the units and rows.
 use Rattle.std.proofs.Common.{◌≡◌, ap, refl, ◌∙◌, rules}
 use Rattle.text_cut.specs.Halves.{joined}
-use Rattle.replace_engine.specs.Rows.{state_with}
+use Rattle.span_changes.specs.Rows.{state_with}
 use Rattle.replace_engine.proofs.text.SpannedText.judge.Goals as goal
 
 pub returns-in-Replace : goal.returns-in-Replace

@@ -5,7 +5,7 @@ use Rattle.edit_base.specs.declared.verdicts.Verdict.TheVariants.{Done}
 use Rattle.edit_model.proofs.Tables.{least_place, least_end, ordered_places, greatest_place}
 use Rattle.edit_model.proofs.EditedStates.{Passes, passes}
 use Rattle.text_cut.specs.Halves.{joined}
-use Rattle.replace_engine.specs.Rows.{state_with}
+use Rattle.span_changes.specs.Rows.{state_with}
 use Rattle.replace_engine.proofs.text.SpannedText.judge_replacement.Goals as goal
 
 pub returns-clause-verdict : goal.returns-clause-verdict

@@ -2,8 +2,8 @@
 use Rattle.std.proofs.Common.{ap, refl}
 use Rattle.edit_model.specs.Changed.{no_effect}
 use Rattle.edit_model.specs.Rows.{spans_in}
-use Rattle.replace_engine.proofs.Spans.{effect_from}
-use Rattle.replace_engine.proofs.MovedLaws.{begun_tells}
+use Rattle.span_changes.proofs.Spans.{effect_from}
+use Rattle.span_changes.proofs.MovedLaws.{begun_tells}
 use Rattle.replace_engine.proofs.text.SpannedText.new.Goals as goal
 
 pub returns-clause-effect : goal.returns-clause-effect

@@ -1,8 +1,0 @@
-use Rattle.std.proofs.Common.{◌≡◌, ◌++◌, take}
-use Rattle.std.specs.List.{flat_map}
-use Rattle.edit_model.specs.Printed.{span_line}
-use Rattle.edit_model.specs.Rows.{spans_in}
-use Rattle.replay_cli.proofs.queries.print_rows.Given as goal
-
-abbrev pub invariant-loop-row : goal.invariant-loop-row
-invariant-loop-row l = l.out.items ≡ l.fn.out.items ++ flat_map span_line (spans_in (take l.row-index l.rows))

@@ -1,0 +1,12 @@
+//! Where a cursor goes that counts from a replaced range, and the text round the selection.
+#![tactic(auto)]
+
+mod copying;
+mod cursor;
+mod round;
+
+pub use cursor::cursor_place;
+pub use round::{halves_of, selected, selection_in, text_after, text_before};
+
+#[cfg(test)]
+mod tests;

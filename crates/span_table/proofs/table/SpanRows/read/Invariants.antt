@@ -1,0 +1,5 @@
+-- A counter of its own.
+use Rattle.span_table.proofs.table.SpanRows.read.Given as goal
+
+abbrev pub ghosts-read_counted : goal.ghosts-read_counted
+ghosts-read_counted a = record { name = a.blank.name; parts = a.blank.parts }
