@@ -1,7 +1,11 @@
 //! Spans as rows, and the text and spans that a replacement brings.
 
+ghost use Rattle.std.specs.Prelude.{◌≡◌, IfOk};
+
 use crate::kinds::What;
 use crate::list::Items;
+use crate::memory::NoMemory;
+use std::alloc::Global;
 
 /// An attached span. Places count UTF-16 units. `order` rises along the list of spans, and only its comparison means
 /// anything.
@@ -36,6 +40,17 @@ pub struct Incoming {
 impl Incoming {
     /// Units, and spans, that a replacement may bring.
     pub const MOST: u32 = 1_073_741_824;
+
+    /// The same units and spans again, in memory of their own.
+    pub fn copy(&self, alloc: Global) -> Result<Incoming, NoMemory>
+        ensures { IfOk result (λ it. it ≡ self.now) }
+    {
+        Ok(Incoming {
+            units: Items::from_vec(self.units.as_slice().to_vec(alloc)?),
+            spans: Items::from_vec(self.spans.as_slice().to_vec(alloc)?),
+            composing: self.composing,
+        })
+    }
 }
 
 /// Which spans a query asks for.

@@ -12,7 +12,7 @@ use Rattle.edit_model.specs.State.{State}
 use Rattle.edit_model.specs.Verdicts.{judged}
 use Rattle.edit_model.specs.Changed.{stepped, on_done}
 use Rattle.edit_model.specs.Events.{listeners, text_event, span_callbacks}
-use Rattle.edit_model.specs.Machine.{Setup, Scene, asked_by, resolved, is_too_deep, is_too_many, is_barred, judged_at, as_brought, verdict_at, edit_logged, with_one_begun, changed_by}
+use Rattle.edit_model.specs.Machine.{Setup, Scene, resolved_edit, resolved, is_too_deep, is_too_many, is_barred, judged_at, as_brought, verdict_at, edit_logged, with_one_begun, changed_by}
 use Rattle.edit_model.specs.Outcome.{Answered, told_each, before_told, changed_told, after_told, span_told, behind_change, behind_edit, behind_answer, answered_at, outcome}
 
 -- what holds of a scene holds of it when each was told
@@ -43,8 +43,8 @@ done_anywhere r depth asked state begun is =
 
 -- every edit that a watcher may answer keeps it
 pub record IsKept (r : Setup) (P : State → Type 0) : Type 0 where
-  pub edit : (state : State) (it : Edit) → judged state (length r.slots) (as_brought r (asked_by it) state) ≡ Done → P state
-      → P (stepped state (as_brought r (asked_by it) state))
+  pub edit : (state : State) (it : Edit) → judged state (length r.slots) (as_brought r (resolved_edit it) state) ≡ Done → P state
+      → P (stepped state (as_brought r (resolved_edit it) state))
 
 module _ (r : Setup) (P : State → Type 0) (kept : IsKept r P) where
   abbrev KeepsAnswered : Answered → Type 0
@@ -74,13 +74,13 @@ module _ (r : Setup) (P : State → Type 0) (kept : IsKept r P) where
   keeps_answer : (depth : ℕ) (answered : Answered) → KeepsAnswered answered → KeepsAnswered (behind_answer r depth answered)
   keeps_answer depth answered keeps [] s holds = holds
   keeps_answer depth answered keeps (first ∷ others) s holds =
-      let begun = with_one_begun (edit_logged r depth (asked_by first) s) in
-      cond_both (is_barred r.depth depth s.begun) (edit_logged r depth (asked_by first) s)
-      (behind_answer r depth answered others (behind_edit r depth (asked_by first) answered s begun))
+      let begun = with_one_begun (edit_logged r depth (resolved_edit first) s) in
+      cond_both (is_barred r.depth depth s.begun) (edit_logged r depth (resolved_edit first) s)
+      (behind_answer r depth answered others (behind_edit r depth (resolved_edit first) answered s begun))
       (λ t. P t.state)
       (λ barred. holds)
-      (λ let_in. keeps_answer depth answered keeps others (behind_edit r depth (asked_by first) answered s begun)
-      (keeps_edit depth (asked_by first) answered s begun keeps refl (λ is. kept.edit s.state first is holds) (λ is. holds)))
+      (λ let_in. keeps_answer depth answered keeps others (behind_edit r depth (resolved_edit first) answered s begun)
+      (keeps_edit depth (resolved_edit first) answered s begun keeps refl (λ is. kept.edit s.state first is holds) (λ is. holds)))
 
   keeps_answered : (more depth : ℕ) → KeepsAnswered (answered_at r more depth)
   keeps_answered zero depth = keeps_answer depth (λ deeper t. t) (λ edits s holds. holds)

@@ -3,8 +3,6 @@ pub mod Tables
 pub mod FullTables
 pub mod Splices
 pub mod InPlace
-pub mod Newlines
-pub mod Readings
 pub mod Paragraphs
 pub mod Ends
 pub mod KeptBoundaries
@@ -23,8 +21,7 @@ pub mod SpanEvents
 pub mod MachineRuns
 pub mod Outcomes
 pub mod SelectionPlaces
-pub mod PlannedItems
+pub mod ResolvedItems
 pub mod KeptOutcomes
 pub mod Regions
 pub mod Answering
-pub mod Shelving

@@ -9,12 +9,12 @@ use Rattle.edit_model.specs.declared.items.Item.{Item}
 use Rattle.edit_model.specs.declared.events.TextEvent.{TextEvent}
 use Rattle.edit_model.specs.declared.events.SpanCallback.{SpanCallback}
 use Rattle.edit_model.specs.declared.steps.Step.{Step}
-use Rattle.edit_model.specs.declared.steps.Step.TheVariants as ask
+use Rattle.edit_model.specs.declared.steps.Step.TheVariants as edit_step
 use Rattle.edit_model.specs.State.{State}
 use Rattle.edit_model.specs.Changed.{on_done}
 use Rattle.edit_model.specs.Minds.{answer_after, answer_span}
 use Rattle.edit_model.specs.Events.{listeners, text_event, span_callbacks}
-use Rattle.edit_model.specs.Machine.{Setup, Scene, Task, at, run_item, do_rest, make_change, tell_before, tell_changed, tell_after, tell_span, rest_of, asked_by, resolved, is_barred, verdict_at, as_brought, events, sets_off, edit_logged, with_one_begun, answer_begun, changed_by, mind_in, Reaches, Leads, Ends}
+use Rattle.edit_model.specs.Machine.{Setup, Scene, Task, at, run_item, do_rest, make_change, tell_before, tell_changed, tell_after, tell_span, rest_of, resolved_edit, resolved, is_barred, verdict_at, as_brought, events, sets_off, edit_logged, with_one_begun, answer_begun, changed_by, mind_in, Reaches, Leads, Ends}
 use Rattle.edit_model.specs.Outcome.{Answered, told_each, before_told, changed_told, after_told, span_told, behind_change, behind_edit, behind_answer, answered_at, outcome, outcomes}
 use Rattle.edit_model.proofs.SpanLists.{all_each, all-weaker}
 use Rattle.edit_model.proofs.SpanEvents.{HasDepth, depth-span_callbacks}
@@ -36,13 +36,13 @@ makes_each r task tell each slots = makes_all r task tell slots (all_each (λ sl
 -- an event has the depth of its edit
 pub depth-text_event : (depth : ℕ) (asked : Step) → (text_event depth asked).depth ≡ depth
 unfolding text_event
-depth-text_event depth (ask.Replace start end incoming) = refl
-depth-text_event depth (ask.Set id start end flags what) = refl
-depth-text_event depth (ask.Remove id) = refl
-depth-text_event depth (ask.Select start end) = refl
-depth-text_event depth ask.Deselect = refl
-depth-text_event depth ask.Drop = refl
-depth-text_event depth (ask.Mark start end) = refl
+depth-text_event depth (edit_step.Replace start end incoming) = refl
+depth-text_event depth (edit_step.Set id start end flags what) = refl
+depth-text_event depth (edit_step.Remove id) = refl
+depth-text_event depth (edit_step.Select start end) = refl
+depth-text_event depth edit_step.Deselect = refl
+depth-text_event depth edit_step.Drop = refl
+depth-text_event depth (edit_step.Mark start end) = refl
 
 -- the answers at a depth lead to what a function makes of them
 abbrev AnswersMake : Setup → ℕ → Answered → Type 0
@@ -107,23 +107,23 @@ makes_edit r depth asked answered judged_in s makes =
 -- the first edit of an answer, by whether it is barred
 abbrev first_made : Setup → Edit → List Edit → ℕ → Answered → Bool → Scene → Scene
 first_made r first others depth answered barred s =
-    cond barred (edit_logged r depth (asked_by first) s)
-    (behind_answer r depth answered others (behind_edit r depth (asked_by first) answered s (with_one_begun (edit_logged r depth (asked_by first) s))))
+    cond barred (edit_logged r depth (resolved_edit first) s)
+    (behind_answer r depth answered others (behind_edit r depth (resolved_edit first) answered s (with_one_begun (edit_logged r depth (resolved_edit first) s))))
 
 makes_first : (r : Setup) (first : Edit) (others : List Edit) (depth : ℕ) (answered : Answered) (s : Scene) (barred : Bool)
     → is_barred r.depth depth s.begun ≡ barred → (barred ≡ false → AnswersMake r (depth + 1) answered)
     → Makes r (rest_of others depth) (behind_answer r depth answered others)
     → Leads r (do_rest first others depth ∷ []) [] s (first_made r first others depth answered barred s)
 makes_first r first others depth answered s true is deeper behind =
-    leads_first {left = []} {b = edit_logged r depth (asked_by first) s}
-    (λ rest. ap (λ b. cond b (at (edit_logged r depth (asked_by first) s) rest) (answer_begun r (asked_by first) others depth s rest)) is)
+    leads_first {left = []} {b = edit_logged r depth (resolved_edit first) s}
+    (λ rest. ap (λ b. cond b (at (edit_logged r depth (resolved_edit first) s) rest) (answer_begun r (resolved_edit first) others depth s rest)) is)
 makes_first r first others depth answered s false is deeper behind =
-    leads_on (leads_first {left = sets_off r depth (asked_by first) s.state s.begun ++ rest_of others depth}
-    {b = with_one_begun (edit_logged r depth (asked_by first) s)}
-    (λ rest. ap (λ b. cond b (at (edit_logged r depth (asked_by first) s) rest) (answer_begun r (asked_by first) others depth s rest)) is
-    ∙ ap (λ ts. at (with_one_begun (edit_logged r depth (asked_by first) s)) ts)
-    (sym (append_assoc (sets_off r depth (asked_by first) s.state s.begun) (rest_of others depth) rest))))
-    (leads_then (makes_edit r depth (asked_by first) answered s _ (deeper refl)) (behind _))
+    leads_on (leads_first {left = sets_off r depth (resolved_edit first) s.state s.begun ++ rest_of others depth}
+    {b = with_one_begun (edit_logged r depth (resolved_edit first) s)}
+    (λ rest. ap (λ b. cond b (at (edit_logged r depth (resolved_edit first) s) rest) (answer_begun r (resolved_edit first) others depth s rest)) is
+    ∙ ap (λ ts. at (with_one_begun (edit_logged r depth (resolved_edit first) s)) ts)
+    (sym (append_assoc (sets_off r depth (resolved_edit first) s.state s.begun) (rest_of others depth) rest))))
+    (leads_then (makes_edit r depth (resolved_edit first) answered s _ (deeper refl)) (behind _))
 
 makes_answer : (r : Setup) (depth : ℕ) (answered : Answered)
     → ((s : Scene) → is_barred r.depth depth s.begun ≡ false → AnswersMake r (depth + 1) answered) → AnswersMake r depth (behind_answer r depth answered)

@@ -18,7 +18,7 @@ use Rattle.edit_model.specs.Selection.{selection_start, selection_end, has_selec
 use Rattle.edit_model.specs.Verdicts.{judged, set_lines, is_kept_id}
 use Rattle.edit_model.specs.WellFormed.{composing_id, is_kept_what}
 use Rattle.edit_model.specs.Changed.{stepped, selected_spans}
-use Rattle.edit_model.specs.Machine.{Setup, Scene, alone, asked_by, resolved, as_brought, judged_at}
+use Rattle.edit_model.specs.Machine.{Setup, Scene, alone, resolved_edit, resolved, as_brought, judged_at}
 use Rattle.edit_model.specs.Outcome.{outcome}
 use Rattle.edit_model.proofs.Tables.{none_applies}
 use Rattle.edit_model.proofs.SpanLists.{absent-filter, attached-map}
@@ -86,11 +86,11 @@ no_region-selected a b spans none =
 
 -- no edit that a watcher may answer attaches a region
 pub no_region-kept : (r : Setup) → IsKept r HasNoRegion
-unfolding asked_by stepped
+unfolding resolved_edit stepped
 no_region-kept r = record { edit = keeps }
   where
-    keeps : (state : State) (it : Edit) → judged state (length r.slots) (as_brought r (asked_by it) state) ≡ Done → HasNoRegion state
-        → HasNoRegion (stepped state (as_brought r (asked_by it) state))
+    keeps : (state : State) (it : Edit) → judged state (length r.slots) (as_brought r (resolved_edit it) state) ≡ Done → HasNoRegion state
+        → HasNoRegion (stepped state (as_brought r (resolved_edit it) state))
     keeps state (edit.Replace start end text) is_done none =
         no_region-replaced state start end _ (alone-if (lies_within state start end) r.filters text.items (length state.units) (place start) (place end)) none
     keeps state (edit.SetSpan id start end flags what) is_done none = no_region-set state (length r.slots) id start end flags what is_done none

@@ -12,7 +12,7 @@ use Rattle.edit_model.specs.declared.events.SpanChange.{SpanChange}
 use Rattle.edit_model.specs.declared.events.SpanChange.TheVariants.{Added, Moved, Removed}
 use Rattle.edit_model.specs.declared.events.SpanCallback.{SpanCallback}
 use Rattle.edit_model.specs.declared.steps.Step.{Step}
-use Rattle.edit_model.specs.declared.steps.Step.TheVariants as ask
+use Rattle.edit_model.specs.declared.steps.Step.TheVariants as edit_step
 use Rattle.edit_model.specs.State.{Span, State, place}
 use Rattle.edit_model.specs.Attached.{has_id, is_attached, with_span, spans_of}
 use Rattle.edit_model.specs.Changed.{Shift, Effect, change_of, stepped, has_moved, shifts_by, spans_effect}
@@ -21,7 +21,7 @@ use Rattle.edit_model.specs.Replaced.{is_emptied, moved_span, kept_spans, came_s
 use Rattle.edit_model.specs.Over.{lies_over, is_picked, is_watch, over}
 use Rattle.edit_model.specs.WellFormed.{HasSlot, IsSeated, IsSpanOver, IsWellFormed}
 use Rattle.edit_model.specs.Minds.{IsToldSpan}
-use Rattle.edit_model.specs.Events.{IsCallback, seat_of, seats_of, span_event, beside, callbacks, removed_told, moved_told, added_told, spans_told, span_callbacks}
+use Rattle.edit_model.specs.Events.{IsCallback, slot_of, slots_of, span_event, beside, callbacks, removed_told, moved_told, added_told, spans_told, span_callbacks}
 use Rattle.edit_model.proofs.SpanLists.{all-filter, all-filter_passes, all-map, all-append, all-both, all-weaker, all_each}
 use Rattle.edit_model.proofs.OverLists.{all-by_priority}
 
@@ -79,15 +79,15 @@ short-over units short span is = record { start = omega (arith, short, is.ordere
 shorts : (state : State) → IsWellFormed state → AllByRecursion IsShort state.spans
 shorts state formed = all-weaker (IsSpanOver state.units) IsShort (short-over state.units formed.short) state.spans formed.spans
 
-seat_below : (count : ℕ) (what : What) → HasSlot count what → is_watch what ≡ true → seat_of what < count
-seat_below count (Watch slot) has here = has
-seat_below count (Tag number) has here = absurd (cc)
-seat_below count (Face number) has here = absurd (cc)
-seat_below count (Margin first rest) has here = absurd (cc)
-seat_below count (Float margin lines) has here = absurd (cc)
-seat_below count SelStart has here = absurd (cc)
-seat_below count SelEnd has here = absurd (cc)
-seat_below count Composing has here = absurd (cc)
+slot_below : (count : ℕ) (what : What) → HasSlot count what → is_watch what ≡ true → slot_of what < count
+slot_below count (Watch slot) has here = has
+slot_below count (Tag number) has here = absurd (cc)
+slot_below count (Face number) has here = absurd (cc)
+slot_below count (Margin first rest) has here = absurd (cc)
+slot_below count (Float margin lines) has here = absurd (cc)
+slot_below count SelStart has here = absurd (cc)
+slot_below count SelEnd has here = absurd (cc)
+slot_below count Composing has here = absurd (cc)
 
 second : (first rest : Bool) → (first && rest) ≡ true → rest ≡ true
 second true rest both = both
@@ -95,26 +95,26 @@ second false rest both = absurd (cc)
 
 -- the seats over a range have slots
 seats_over : (count start end : ℕ) (spans : List Span) → IsSeated count spans
-    → AllByRecursion (λ span. seat_of span.what < count) (over start end Watches spans)
+    → AllByRecursion (λ span. slot_of span.what < count) (over start end Watches spans)
 unfolding over
 seats_over count start end spans seated =
     let test = λ (span : Span). lies_over start end span && is_picked Watches span.what in
     let P = λ (span : Span). HasSlot count span.what × (test span ≡ true) in
-    all-by_priority (λ span. seat_of span.what < count) (filter test spans)
-    (all-weaker P (λ span. seat_of span.what < count)
-    (λ span both. seat_below count span.what both.0 (second (lies_over start end span) (is_watch span.what) both.1))
+    all-by_priority (λ span. slot_of span.what < count) (filter test spans)
+    (all-weaker P (λ span. slot_of span.what < count)
+    (λ span both. slot_below count span.what both.0 (second (lies_over start end span) (is_watch span.what) both.1))
     (filter test spans) (all-filter_passes (λ span. HasSlot count span.what) test spans seated))
 
-pub slots_below : (count start end : ℕ) (spans : List Span) → IsSeated count spans → AllByRecursion (λ slot. slot < count) (seats_of (over start end Watches spans))
+pub slots_below : (count start end : ℕ) (spans : List Span) → IsSeated count spans → AllByRecursion (λ slot. slot < count) (slots_of (over start end Watches spans))
 slots_below count start end spans seated =
-    all-map (λ span. seat_of span.what < count) (λ slot. slot < count) (λ span. seat_of span.what) (λ span is. is) (over start end Watches spans)
+    all-map (λ span. slot_of span.what < count) (λ slot. slot < count) (λ span. slot_of span.what) (λ span is. is) (over start end Watches spans)
     (seats_over count start end spans seated)
 
 beside_below : (count id start end : ℕ) (spans : List Span) → IsSeated count spans → AllByRecursion (λ slot. slot < count) (beside id start end spans)
 beside_below count id start end spans seated =
-    all-map (λ span. seat_of span.what < count) (λ slot. slot < count) (λ span. seat_of span.what) (λ span is. is)
+    all-map (λ span. slot_of span.what < count) (λ slot. slot < count) (λ span. slot_of span.what) (λ span is. is)
     (filter (λ seat. not (has_id id seat)) (over start end Watches spans))
-    (all-filter (λ span. seat_of span.what < count) (λ seat. not (has_id id seat)) (over start end Watches spans) (seats_over count start end spans seated))
+    (all-filter (λ span. slot_of span.what < count) (λ seat. not (has_id id seat)) (over start end Watches spans) (seats_over count start end spans seated))
 
 are-callbacks : (count : ℕ) (event : SpanEvent) (slots : List ℕ) → IsToldSpan event → AllByRecursion (λ slot. slot < count) slots
     → AllByRecursion (IsCallback count event.depth) (callbacks event slots)
@@ -156,7 +156,7 @@ shifts-short move spans from to =
 pub short-effect : (state : State) (asked : Step) → AllByRecursion IsShort state.spans → AllByRecursion IsShort (stepped state asked).spans
     → IsShortEffect (change_of state asked)
 unfolding change_of stepped
-short-effect state (ask.Replace start end incoming) old new =
+short-effect state (edit_step.Replace start end incoming) old new =
     let s = place start in
     let e = place end in
     let n = length incoming.units in
@@ -169,7 +169,7 @@ short-effect state (ask.Replace start end incoming) old new =
           (shifts-short move kept (all-filter IsShort (λ span. not (is_emptied s e n span)) state.spans old) (all-given IsShort move kept came new));
       added = all-end IsShort (map move kept) came new;
     }
-short-effect state (ask.Set id start end flags what) old new =
+short-effect state (edit_step.Set id start end flags what) old new =
     let span : Span = record { id = id; start = place start; end = place end; flags = flags; what = what } in
     let short = holds-with_span IsShort span state.spans new in
     cond_both (is_attached id state.spans) (spans_effect [] (shifts_by (λ other. span) (spans_of id state.spans)) []) (spans_effect [] [] (span ∷ []))
@@ -181,8 +181,8 @@ short-effect state (ask.Set id start end flags what) old new =
       added = tt;
     })
     (λ is. record { removed = tt; moved = tt; added = (short, tt) })
-short-effect state (ask.Remove id) old new = record { removed = all-filter IsShort (has_id id) state.spans old; moved = tt; added = tt }
-short-effect state (ask.Select start end) old new =
+short-effect state (edit_step.Remove id) old new = record { removed = all-filter IsShort (has_id id) state.spans old; moved = tt; added = tt }
+short-effect state (edit_step.Select start end) old new =
     let move = with_ends (place start) (place end) in
     let came : List Span = selection_start (place start) ∷ selection_end (place end) ∷ [] in
     ⊎_elim (λ is.
@@ -203,9 +203,9 @@ short-effect state (ask.Select start end) old new =
       added = all-end IsShort state.spans came (subst (λ b. AllByRecursion IsShort (cond b (map move state.spans) (state.spans ++ came))) is new);
     }))
     (cases_Bool (has_selection state.spans))
-short-effect state ask.Deselect old new = record { removed = all-filter IsShort is_of_selection state.spans old; moved = tt; added = tt }
-short-effect state ask.Drop old new = record { removed = all-filter IsShort is_dropped state.spans old; moved = tt; added = tt }
-short-effect state (ask.Mark start end) old new =
+short-effect state edit_step.Deselect old new = record { removed = all-filter IsShort is_of_selection state.spans old; moved = tt; added = tt }
+short-effect state edit_step.Drop old new = record { removed = all-filter IsShort is_dropped state.spans old; moved = tt; added = tt }
+short-effect state (edit_step.Mark start end) old new =
     record { removed = tt; moved = tt; added = all-end IsShort state.spans (region_span start end ∷ []) new }
 
 -- ---- an edit's callbacks

@@ -8,24 +8,15 @@ use Rattle.edit_base.specs.declared.kinds.What.{What}
 use Rattle.edit_base.specs.declared.kinds.What.TheVariants.{Tag, Face, Margin, Float, Watch, SelStart, SelEnd, Composing}
 use Rattle.edit_model.specs.State.{Span, State}
 use Rattle.edit_model.specs.Over.{is_watch}
+use Rattle.edit_model.specs.Events.{slot_of}
 use Rattle.edit_model.specs.WellFormed.{HasSlot, HasOtherSeat, HasDistinctSeats, IsWellFormed, IsSeated}
 use Rattle.edit_model.proofs.SpanLists.{all-filter_passes, all-map}
-
-abbrev slot_of : What → ℕ
-slot_of (Tag number) = 0
-slot_of (Face number) = 0
-slot_of (Margin first rest) = 0
-slot_of (Float margin lines) = 0
-slot_of (Watch slot) = slot
-slot_of SelStart = 0
-slot_of SelEnd = 0
-slot_of Composing = 0
 
 abbrev sits : Span → Bool
 sits span = is_watch span.what
 
-abbrev seat_of : Span → ℕ
-seat_of span = slot_of span.what
+abbrev span_slot : Span → ℕ
+span_slot span = slot_of span.what
 
 -- two watchers have two slots
 other_slot : (what other : What) → is_watch what ≡ true → is_watch other ≡ true → HasOtherSeat what other → eqb (slot_of what) (slot_of other) ≡ false
@@ -56,24 +47,24 @@ own_slot slots SelEnd has here = absurd (cc)
 own_slot slots Composing has here = absurd (cc)
 
 one_more : (test : Bool) (span : Span) (spans : List Span) → sits span ≡ test → AllByRecursion (λ other. HasOtherSeat span.what other.what) spans
-    → IsDistinct eqb (map seat_of (filter sits spans)) → IsDistinct eqb (map seat_of (cond test (span ∷ filter sits spans) (filter sits spans)))
+    → IsDistinct eqb (map span_slot (filter sits spans)) → IsDistinct eqb (map span_slot (cond test (span ∷ filter sits spans) (filter sits spans)))
 unfolding IsDistinct
 one_more true span spans is apart rest = (
-  all-map (λ other. HasOtherSeat span.what other.what × (sits other ≡ true)) (λ slot. eqb (seat_of span) slot ≡ false) seat_of
+  all-map (λ other. HasOtherSeat span.what other.what × (sits other ≡ true)) (λ slot. eqb (span_slot span) slot ≡ false) span_slot
       (λ other both. other_slot span.what other.what is both.1 both.0) (filter sits spans)
       (all-filter_passes (λ other. HasOtherSeat span.what other.what) sits spans apart),
   rest,
 )
 one_more false span spans is apart rest = rest
 
-distinct-slots : (spans : List Span) → HasDistinctSeats spans → IsDistinct eqb (map seat_of (filter sits spans))
+distinct-slots : (spans : List Span) → HasDistinctSeats spans → IsDistinct eqb (map span_slot (filter sits spans))
 unfolding IsDistinct
 distinct-slots [] apart = tt
 distinct-slots (span ∷ spans) apart = one_more (sits span) span spans refl apart.0 (distinct-slots spans apart.1)
 
-below-slots : (slots : ℕ) (spans : List Span) → IsSeated slots spans → AllByRecursion (λ slot. slot < slots) (map seat_of (filter sits spans))
+below-slots : (slots : ℕ) (spans : List Span) → IsSeated slots spans → AllByRecursion (λ slot. slot < slots) (map span_slot (filter sits spans))
 below-slots slots spans seated =
-    all-map (λ span. HasSlot slots span.what × (sits span ≡ true)) (λ slot. slot < slots) seat_of
+    all-map (λ span. HasSlot slots span.what × (sits span ≡ true)) (λ slot. slot < slots) span_slot
     (λ span both. own_slot slots span.what both.0 both.1) (filter sits spans) (all-filter_passes (λ span. HasSlot slots span.what) sits spans seated)
 
 first_below : (slots q slot : ℕ) (test rest : Bool) → slot < slots → eqb q slot ≡ test → (rest ≡ true → q < slots) → (test || rest) ≡ true → q < slots
@@ -88,6 +79,6 @@ found_below slots q (slot ∷ found) each any =
 pub few-watchers : (state : State) (slots : ℕ) → IsWellFormed state → IsSeated slots state.spans
     → length (filter (λ span. is_watch span.what) state.spans) ≤ slots
 few-watchers state slots formed seated =
-    let few = length-le_from_distinct_below (map seat_of (filter sits state.spans)) slots (distinct-slots state.spans formed.apart)
-    (λ q any. found_below slots q (map seat_of (filter sits state.spans)) (below-slots slots state.spans seated) any) in
-    subst (λ n. n ≤ slots) (length-map (filter sits state.spans) seat_of) few
+    let few = length-le_from_distinct_below (map span_slot (filter sits state.spans)) slots (distinct-slots state.spans formed.apart)
+    (λ q any. found_below slots q (map span_slot (filter sits state.spans)) (below-slots slots state.spans seated) any) in
+    subst (λ n. n ≤ slots) (length-map (filter sits state.spans) span_slot) few

@@ -1,5 +1,5 @@
 -- What a replacement brings: what holds of it, and which of the spans that come are attached.
-use Rattle.std.specs.Prelude.{ℕ, ◌≤◌, ◌+◌, ◌++◌, ◌&&◌, ◌||◌, ◌==◌, Bool, not, List, [], ◌∷◌, length, map, min, if◌then◌else◌}
+use Rattle.std.specs.Prelude.{ℕ, ◌≤◌, ◌+◌, ◌++◌, ◌&&◌, ◌||◌, ◌==◌, Bool, false, not, List, [], ◌∷◌, length, map, min, if◌then◌else◌}
 use Rattle.std.specs.List.{All}
 use Rattle.edit_base.specs.declared.kinds.What.TheVariants.{Composing}
 use Rattle.edit_base.specs.declared.rows.Incoming.{Incoming}
@@ -24,6 +24,10 @@ pub record IsBrought (incoming : Incoming) : Type 0 where
   pub ordered : All IsOrdered incoming.spans
 
 -- ---- spans
+
+-- units, and spans over them
+abbrev pub incoming_of : List ℕ → List NewSpan → Incoming
+incoming_of units brought = record { units = units; spans = brought; composing = false }
 
 -- the composing region over n incoming units, where it comes
 abbrev pub region_over : Bool → ℕ → List NewSpan

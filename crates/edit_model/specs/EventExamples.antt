@@ -6,7 +6,7 @@ use Rattle.edit_model.specs.declared.events.SpanChange.TheVariants.{Added, Moved
 use Rattle.edit_model.specs.declared.steps.Step.TheVariants as step
 use Rattle.edit_model.specs.State.{Span}
 use Rattle.edit_model.specs.Events.{span_callbacks}
-use Rattle.edit_model.specs.Reading.{incoming_of}
+use Rattle.edit_model.specs.Brought.{incoming_of}
 use Rattle.edit_model.specs.Examples.{tagged, attached}
 
 -- the seat of a watcher in a slot

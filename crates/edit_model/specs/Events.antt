@@ -16,24 +16,24 @@ use Rattle.edit_model.specs.Over.{over}
 use Rattle.edit_model.specs.Changed.{Shift, Effect, change_of, stepped}
 use Rattle.edit_model.specs.Minds.{IsToldSpan}
 
--- the slot of a watcher's seat, and 0 of any other what
-abbrev pub seat_of : What → ℕ
-seat_of (Tag number) = 0
-seat_of (Face number) = 0
-seat_of (Margin first rest) = 0
-seat_of (Float margin lines) = 0
-seat_of (Watch slot) = slot
-seat_of SelStart = 0
-seat_of SelEnd = 0
-seat_of Composing = 0
+-- the slot of the watcher whose seat this is, and 0 of any other what
+abbrev pub slot_of : What → ℕ
+slot_of (Tag number) = 0
+slot_of (Face number) = 0
+slot_of (Margin first rest) = 0
+slot_of (Float margin lines) = 0
+slot_of (Watch slot) = slot
+slot_of SelStart = 0
+slot_of SelEnd = 0
+slot_of Composing = 0
 
 -- the slots of the seats among some spans
-abbrev pub seats_of : List Span → List ℕ
-seats_of spans = map (λ span. seat_of span.what) spans
+abbrev pub slots_of : List Span → List ℕ
+slots_of spans = map (λ span. slot_of span.what) spans
 
 -- who is told of an edit's text: the watchers whose seats lie over the replaced range before the change, in a query's order
 unfoldable pub listeners : State → Step → List ℕ
-listeners state (step.Replace start end incoming) = seats_of (over (place start) (place end) Watches state.spans)
+listeners state (step.Replace start end incoming) = slots_of (over (place start) (place end) Watches state.spans)
 listeners state (step.Set id start end flags what) = []
 listeners state (step.Remove id) = []
 listeners state (step.Select start end) = []
@@ -73,7 +73,7 @@ span_event depth change from to = record {
 -- those who are told of a span: the watchers whose seats lie over a range, but for a seat that is the span itself, in a
 -- query's order
 abbrev pub beside : ℕ → ℕ → ℕ → List Span → List ℕ
-beside id start end spans = seats_of (filter (λ seat. not (seat.id == id)) (over start end Watches spans))
+beside id start end spans = slots_of (filter (λ seat. not (seat.id == id)) (over start end Watches spans))
 
 -- each of these slots is told of an event
 abbrev pub callbacks : SpanEvent → List ℕ → List SpanCallback

@@ -1,23 +1,17 @@
 -- What a follower's lines are laid out with.
-use Rattle.std.specs.Prelude.{ℕ, List, []}
+use Rattle.std.specs.Prelude.{List, []}
+use Rattle.edit_model.specs.declared.faces.Face.{Face}
+use Rattle.edit_model.specs.declared.faces.Metrics.{Metrics}
 
--- the characters from low to high have this advance
-pub record AdvanceRange : Type 0 where
-  pub low : ℕ
-  pub high : ℕ
-  pub advance : ℕ
-
-pub record Face : Type 0 where
-  pub ascent : ℕ
-  pub descent : ℕ
-  pub fallback : ℕ
-  pub ranges : List AdvanceRange
-
--- the faces and the width that a follower was made with
+-- the faces and the measures that a follower was made with
 pub record Ground : Type 0 where
   pub faces : List Face
-  pub width : ℕ
+  pub metrics : Metrics
+
+-- no width, no tab stops and no distance between lines
+abbrev pub no_metrics : Metrics
+no_metrics = record { width = 0; tab = 0; num = 0; den = 0; add = 0 }
 
 -- those of a follower that lays nothing out
 abbrev pub no_ground : Ground
-no_ground = record { faces = []; width = 0 }
+no_ground = record { faces = []; metrics = no_metrics }

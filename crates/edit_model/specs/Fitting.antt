@@ -29,11 +29,11 @@ IsFittingItem item.Drop = Unit {0}
 IsFittingItem item.Deselect = Unit {0}
 
 -- an item that may have its turn with this text: a region is marked where none is attached
-abbrev pub IsReady : State → Item → Type 0
-IsReady state (item.Edit it) = Unit {0}
-IsReady state (item.Replace start end incoming) = Unit {0}
-IsReady state (item.Write start end incoming) = Unit {0}
-IsReady state (item.Cursor at) = Unit {0}
-IsReady state (item.Mark start end) = has_region state.spans ≡ false
-IsReady state item.Drop = Unit {0}
-IsReady state item.Deselect = Unit {0}
+abbrev pub HasTurn : State → Item → Type 0
+HasTurn state (item.Edit it) = Unit {0}
+HasTurn state (item.Replace start end incoming) = Unit {0}
+HasTurn state (item.Write start end incoming) = Unit {0}
+HasTurn state (item.Cursor at) = Unit {0}
+HasTurn state (item.Mark start end) = has_region state.spans ≡ false
+HasTurn state item.Drop = Unit {0}
+HasTurn state item.Deselect = Unit {0}

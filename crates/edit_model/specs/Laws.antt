@@ -1,6 +1,6 @@
 -- What the definitions mean, as laws.
-use Rattle.std.specs.Prelude.{ℕ, ◌≡◌, ◌≢◌, ◌<◌, ◌≤◌, ◌+◌, ◌&&◌, ◌⊎◌, ◌++◌, true, false, List, [], length, take, filter, slice_index, if◌then◌else◌, IfOk}
-use Rattle.std.specs.List.{All, AllByRecursion}
+use Rattle.std.specs.Prelude.{ℕ, ◌≡◌, ◌≢◌, ◌<◌, ◌≤◌, ◌+◌, ◌&&◌, ◌⊎◌, true, false, List, [], length, take, filter, slice_index, if◌then◌else◌}
+use Rattle.std.specs.List.{All}
 use Rattle.edit_base.specs.declared.rows.Incoming.{Incoming}
 use Rattle.edit_base.specs.declared.verdicts.Verdict.{Verdict}
 use Rattle.edit_base.specs.declared.verdicts.Verdict.TheVariants.{Done}
@@ -25,8 +25,6 @@ use Rattle.edit_model.specs.Log.{logged}
 use Rattle.edit_model.specs.Attached.{has_id, is_attached, spans_of}
 use Rattle.edit_model.specs.Brought.{IsOrdered, IsBrought, has_place, newcomers}
 use Rattle.edit_model.specs.Filtered.{is_high, is_low, passed, kept_before, filtered, filtered_step}
-use Rattle.edit_model.specs.Lines.{with_newline, joined, trace_lines, ended_lines, open_line}
-use Rattle.edit_model.specs.Reading.{read_command, IsFitting}
 
 -- ---- edits
 
@@ -128,33 +126,3 @@ abbrev pub PullsToLeast : Type 0
 PullsToLeast = (units : List ℕ) (e : ℕ) → e < length units
     → (e < next_boundary units e) × (is_boundary units (next_boundary units e) ≡ true)
     × ((place : ℕ) → e < place → is_boundary units place ≡ true → next_boundary units e ≤ place)
-
--- ---- traces
-
--- no byte of a line is `\n`
-abbrev pub IsOneLine : List ℕ → Type 0
-IsOneLine line = AllByRecursion (λ byte. byte ≢ 10) line
-
--- the trace isn't empty, and `\n` isn't its last byte
-abbrev pub EndsOpen : List ℕ → Type 0
-EndsOpen trace = trace ≢ [] × ((front : List ℕ) → trace ≢ with_newline front)
-
--- the lines, each with `\n` behind it, are the trace, or where its last line has no `\n`, the trace with one more
-abbrev pub AreLinesOf : List ℕ → List (List ℕ) → Type 0
-AreLinesOf trace lines = (joined lines ≡ trace) ⊎ (EndsOpen trace × (joined lines ≡ with_newline trace))
-
--- the lines of a trace
-abbrev pub CutsAtNewlines : Type 0
-CutsAtNewlines = (trace : List ℕ) → AllByRecursion IsOneLine (trace_lines trace) × AreLinesOf trace (trace_lines trace)
-
--- the lines, each with `\n` behind it, and what is left behind them are the bytes, and neither a line nor what is left has a `\n`
-abbrev pub AreEndedLinesOf : List ℕ → List (List ℕ) → List ℕ → Type 0
-AreEndedLinesOf bytes lines left = AllByRecursion IsOneLine lines × IsOneLine left × (joined lines ++ left ≡ bytes)
-
--- of a trace over its limit: the lines whose `\n` stands in the bytes that are read, and the one that is cut off
-abbrev pub LeavesOneOpen : Type 0
-LeavesOneOpen = (bytes : List ℕ) → AreEndedLinesOf bytes (ended_lines bytes) (open_line bytes)
-
--- a command that was read brings no more than a replacement may
-abbrev pub ReadsFittingCommands : Type 0
-ReadsFittingCommands = (line : List ℕ) → IfOk (read_command line) IsFitting

@@ -16,7 +16,7 @@ use Rattle.edit_model.specs.declared.filters.Filter.{Filter}
 use Rattle.edit_model.specs.declared.items.Item.{Item}
 use Rattle.edit_model.specs.declared.items.Item.TheVariants as item
 use Rattle.edit_model.specs.declared.steps.Step.{Step}
-use Rattle.edit_model.specs.declared.steps.Step.TheVariants as ask
+use Rattle.edit_model.specs.declared.steps.Step.TheVariants as edit_step
 use Rattle.edit_model.specs.State.{State, place}
 use Rattle.edit_model.specs.Verdicts.{judged}
 use Rattle.edit_model.specs.Filtered.{filtered_step}
@@ -27,7 +27,7 @@ use Rattle.edit_model.specs.Events.{listeners, text_event, span_callbacks}
 
 -- ---- what the machine works on
 
--- what no step changes: the filters, the places on the shelf of the watchers in the slots, and how deep edits may be nested
+-- what no step changes: the filters, the shelf places of the watchers in the slots, and how deep edits may be nested
 pub record Setup : Type 0 where
   pub filters : List Filter
   pub slots : List ℕ
@@ -41,6 +41,10 @@ pub record Scene : Type 0 where
   pub log : List LogEntry
   pub begun : ℕ
   pub effects : List Effect
+
+-- where a command starts: nothing is logged, and no nested edit has begun
+abbrev pub scene_at : State → List Mind → Scene
+scene_at state minds = record { state = state; minds = minds; log = []; begun = 0; effects = [] }
 
 -- what is left to do: an item of a command; the edits of an answer that are left, with their depth; the change of an edit
 -- whose verdict was done; a callback to the watcher in a slot
@@ -71,26 +75,26 @@ rest_of (first ∷ others) depth = do_rest first others depth ∷ []
 abbrev pub alone : List ℕ → Incoming
 alone units = record { units = units; spans = []; composing = false }
 
--- what an edit asks the text for
-unfoldable pub asked_by : Edit → Step
-asked_by (edit.Replace start end text) = ask.Replace start end (alone text.items)
-asked_by (edit.SetSpan id start end flags what) = ask.Set id start end flags what
-asked_by (edit.RemoveSpan id) = ask.Remove id
-asked_by (edit.Select start end) = ask.Select start end
+-- the step that an edit is resolved to
+unfoldable pub resolved_edit : Edit → Step
+resolved_edit (edit.Replace start end text) = edit_step.Replace start end (alone text.items)
+resolved_edit (edit.SetSpan id start end flags what) = edit_step.Set id start end flags what
+resolved_edit (edit.RemoveSpan id) = edit_step.Remove id
+resolved_edit (edit.Select start end) = edit_step.Select start end
 
 -- a place of a connection's item at its turn: in the text
 abbrev pub clamped : State → ℤ → ℕ
 clamped state at = min (place at) (length state.units)
 
--- what an item asks the text for at its turn
+-- the step that an item is resolved to at its turn, in the text that stands then
 unfoldable pub resolved : State → Item → Step
-resolved state (item.Edit it) = asked_by it
-resolved state (item.Replace start end incoming) = ask.Replace start end incoming
-resolved state (item.Write start end incoming) = ask.Replace (pos (clamped state start)) (pos (clamped state end)) incoming
-resolved state (item.Cursor at) = ask.Select (pos (clamped state at)) (pos (clamped state at))
-resolved state (item.Mark start end) = ask.Mark (min (clamped state start) (clamped state end)) (max (clamped state start) (clamped state end))
-resolved state item.Drop = ask.Drop
-resolved state item.Deselect = ask.Deselect
+resolved state (item.Edit it) = resolved_edit it
+resolved state (item.Replace start end incoming) = edit_step.Replace start end incoming
+resolved state (item.Write start end incoming) = edit_step.Replace (pos (clamped state start)) (pos (clamped state end)) incoming
+resolved state (item.Cursor at) = edit_step.Select (pos (clamped state at)) (pos (clamped state at))
+resolved state (item.Mark start end) = edit_step.Mark (min (clamped state start) (clamped state end)) (max (clamped state start) (clamped state end))
+resolved state item.Drop = edit_step.Drop
+resolved state item.Deselect = edit_step.Deselect
 
 -- it is nested, and too deep
 abbrev pub is_too_deep : ℕ → ℕ → Bool
@@ -165,24 +169,24 @@ answer_begun r asked others depth s rest =
 abbrev pub changed_by : Step → Scene → Scene
 changed_by asked s = record s { state = stepped s.state asked; effects = s.effects ++ change_of s.state asked ∷ [] }
 
--- the place on the shelf of the watcher in a slot, and its mind
-abbrev pub seat : Setup → ℕ → ℕ
-seat r slot = slice_index r.slots slot
+-- the shelf place of the watcher in a slot, and its mind
+abbrev pub shelf_place : Setup → ℕ → ℕ
+shelf_place r slot = slice_index r.slots slot
 
 abbrev pub mind_in : Setup → ℕ → Scene → Mind
-mind_in r slot s = slice_index_or s.minds (seat r slot) (blank_mind 0)
+mind_in r slot s = slice_index_or s.minds (shelf_place r slot) (blank_mind 0)
 
 -- a callback to the watcher in a slot: it is logged, and the watcher's mind is another
 abbrev pub with_callback : Setup → ℕ → LogEntry → Mind → Scene → Scene
-with_callback r slot it mind s = record s { minds = slice_set s.minds (seat r slot) mind; log = s.log ++ it ∷ [] }
+with_callback r slot it mind s = record s { minds = slice_set s.minds (shelf_place r slot) mind; log = s.log ++ it ∷ [] }
 
 -- one task, with what stands behind it
 abbrev pub task_done : Setup → Task → Scene → List Task → Config
 task_done r (run_item it) s rest = command_done r (resolved s.state it) s rest
 task_done r (do_rest first others depth) s rest =
     if is_barred r.depth depth s.begun
-    then answer_dropped r (asked_by first) depth s rest
-    else answer_begun r (asked_by first) others depth s rest
+    then answer_dropped r (resolved_edit first) depth s rest
+    else answer_begun r (resolved_edit first) others depth s rest
 task_done r (make_change asked) s rest = at (changed_by asked s) rest
 task_done r (tell_before slot event) s rest =
     at (with_callback r slot (entry.Before slot event) (mind_before (mind_in r slot s) event s.state.units) s) rest

@@ -4,7 +4,7 @@ use Rattle.edit_base.specs.declared.edits.Edit.{Edit}
 use Rattle.edit_base.specs.declared.verdicts.Verdict.TheVariants.{Done}
 use Rattle.edit_model.specs.declared.entries.LogEntry.{LogEntry}
 use Rattle.edit_model.specs.declared.items.Item.{Item}
-use Rattle.edit_model.specs.Machine.{Setup, Scene, Task, at, do_rest, rest_of, asked_by, resolved, verdict_at, edit_entry, step, run_item, Reaches, Ends}
+use Rattle.edit_model.specs.Machine.{Setup, Scene, Task, at, do_rest, rest_of, resolved_edit, resolved, verdict_at, edit_entry, step, run_item, Reaches, Ends}
 use Rattle.edit_model.specs.Outcome.{outcome, outcomes}
 
 -- the run of an item ends, from every scene
@@ -42,6 +42,6 @@ AreLeft others depth rest left = (left ≡ rest_of others depth ++ rest) ⊎ (le
 -- a nested edit that isn't done is logged, and makes no callback
 abbrev pub NestedOnlyLog : Type 0
 NestedOnlyLog = (r : Setup) (first : Edit) (others : List Edit) (depth : ℕ) (old : Scene) (rest : List Task)
-    → verdict_at r depth (asked_by first) old.state old.begun ≢ Done
-    → OnlyLogs (edit_entry r depth (asked_by first) old.state old.begun) old (step r (at old (do_rest first others depth ∷ rest))).scene
+    → verdict_at r depth (resolved_edit first) old.state old.begun ≢ Done
+    → OnlyLogs (edit_entry r depth (resolved_edit first) old.state old.begun) old (step r (at old (do_rest first others depth ∷ rest))).scene
     × AreLeft others depth rest (step r (at old (do_rest first others depth ∷ rest))).agenda

@@ -10,7 +10,7 @@ use Rattle.edit_model.specs.State.{State}
 use Rattle.edit_model.specs.Changed.{on_done}
 use Rattle.edit_model.specs.Minds.{answer_after, answer_span, mind_before, mind_changed, mind_after, mind_span}
 use Rattle.edit_model.specs.Events.{listeners, text_event, span_callbacks}
-use Rattle.edit_model.specs.Machine.{Setup, Scene, asked_by, resolved, is_barred, as_brought, verdict_at, edit_logged, with_one_begun, changed_by, mind_in, with_callback}
+use Rattle.edit_model.specs.Machine.{Setup, Scene, resolved_edit, resolved, is_barred, as_brought, verdict_at, edit_logged, with_one_begun, changed_by, mind_in, with_callback}
 
 -- what the edits of an answer make of a scene
 abbrev pub Answered : Type 0
@@ -60,9 +60,9 @@ abbrev pub behind_answer : Setup → ℕ → Answered → List Edit → Scene �
 behind_answer r depth answered [] s = s
 behind_answer r depth answered (first ∷ others) s =
     if is_barred r.depth depth s.begun
-    then edit_logged r depth (asked_by first) s
+    then edit_logged r depth (resolved_edit first) s
     else behind_answer r depth answered others
-    (behind_edit r depth (asked_by first) answered s (with_one_begun (edit_logged r depth (asked_by first) s)))
+    (behind_edit r depth (resolved_edit first) answered s (with_one_begun (edit_logged r depth (resolved_edit first) s)))
 
 -- the answers at a depth, below which so many more depths may be; where none may, all edits below are barred
 abbrev pub answered_at : Setup → ℕ → ℕ → Answered

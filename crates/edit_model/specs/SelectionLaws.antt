@@ -1,7 +1,5 @@
--- What edits make of the selection and of the composing region, and what a connection asks for, as laws.
-use Rattle.std.specs.Prelude.{ℕ, ℤ, ◌≡◌, ◌≤◌, ◌<◌, ◌+◌, false, List, length, Some, None, IfSome}
-use Rattle.std.specs.List.{All}
-use Rattle.edit_model.specs.declared.commands.Command.{Command}
+-- What edits and items make of the selection and of the composing region, as laws.
+use Rattle.std.specs.Prelude.{ℕ, ℤ, ◌≡◌, ◌≤◌, ◌<◌, ◌+◌, false, Some, None}
 use Rattle.edit_model.specs.declared.items.Item.{Item}
 use Rattle.edit_model.specs.declared.items.Item.TheVariants as item
 use Rattle.edit_model.specs.declared.steps.Step.TheVariants as step
@@ -10,9 +8,7 @@ use Rattle.edit_model.specs.EndTable.{scaled}
 use Rattle.edit_model.specs.WellFormed.{IsWellFormed}
 use Rattle.edit_model.specs.Selection.{selection, region, has_region}
 use Rattle.edit_model.specs.Changed.{stepped}
-use Rattle.edit_model.specs.Fitting.{IsFittingItem, IsReady}
-use Rattle.edit_model.specs.Reading.{IsFitting}
-use Rattle.edit_model.specs.Items.{items_of, items_in, counted_back, counted_on}
+use Rattle.edit_model.specs.Fitting.{IsFittingItem, HasTurn}
 use Rattle.edit_model.specs.Machine.{Setup, Scene, resolved}
 use Rattle.edit_model.specs.Laws.{BringsOrdered}
 use Rattle.edit_model.specs.Outcome.{outcome}
@@ -45,15 +41,6 @@ DropsRegions = (r : Setup) (s : Scene) → has_region (outcome r item.Drop s).st
 
 -- ---- items
 
--- a command that brings no more than a replacement may asks for items that bring no more
-abbrev pub PlansFittingItems : Type 0
-PlansFittingItems = (state : State) (asked : Command) → IsFitting asked → All IsFittingItem (items_in (items_of state asked))
-
--- what an item asks for at its turn keeps a state well formed, where it brings what it may and may have its turn
-abbrev pub AsksInOrder : Type 0
-AsksInOrder = (state : State) (it : Item) → IsFittingItem it → IsReady state it → BringsOrdered state (resolved state it)
-
--- counted back, a place isn't behind where the count begins, and counted on it lies in the text and not before
-abbrev pub CountsWithin : Type 0
-CountsWithin = (units : List ℕ) (count at : ℕ) → at ≤ length units
-    → IfSome (counted_back units count at) (λ first. first ≤ at) × IfSome (counted_on units count at) (λ last. (at ≤ last) × (last ≤ length units))
+-- the step that an item is resolved to at its turn keeps a state well formed, where it brings what it may and may have its turn
+abbrev pub ResolvesInOrder : Type 0
+ResolvesInOrder = (state : State) (it : Item) → IsFittingItem it → HasTurn state it → BringsOrdered state (resolved state it)

@@ -1,8 +1,8 @@
-//! What a command asks the text for, one item after another.
+//! What a command comes to, one item after another.
 
 use edit_base::{Edit, Incoming, Items};
 
-/// An item of a command. What it asks for is read at its turn, with the text that stands then: the places of `Write`,
+/// An item of a command. It is resolved to a step at its turn, in the text that stands then: the places of `Write`,
 /// `Cursor` and `Mark` that lie outside the text go to its start or its end.
 #[derive(Drop)]
 pub enum Item {
@@ -14,7 +14,7 @@ pub enum Item {
         end: i32,
         incoming: Incoming,
     },
-    /// The same as a connection asks for it.
+    /// The same for a connection.
     Write {
         start: i64,
         end: i64,

@@ -1,6 +1,6 @@
 //! What the definitions mean: each law is the contract of a function that does nothing.
 
-ghost use Rattle.edit_model.specs.Laws.{OthersChangeNothing, KeepsWellFormed, KeepsSeats, HasFewWatchers, StaysInText, KeepsOrder, KeepsBoundaries, PullsToLeast, AttachesFirst, TakesPlaces, LeavesPlaces, CutsNoPair, KeepsLength, FiltersBrought, ClippingChangesNothing, CutsAtNewlines, LeavesOneOpen, ReadsFittingCommands};
+ghost use Rattle.edit_model.specs.Laws.{OthersChangeNothing, KeepsWellFormed, KeepsSeats, HasFewWatchers, StaysInText, KeepsOrder, KeepsBoundaries, PullsToLeast, AttachesFirst, TakesPlaces, LeavesPlaces, CutsNoPair, KeepsLength, FiltersBrought, ClippingChangesNothing};
 
 /// Only an edit whose verdict is done changes the state.
 pub fn edits_that_are_not_done_change_nothing()
@@ -39,17 +39,4 @@ pub fn filters_keep_places()
     ensures short { KeepsLength }
     ensures brought { FiltersBrought }
     ensures unfiltered { ClippingChangesNothing }
-{}
-
-/// The lines of a trace hold no `\n`, and with `\n` behind each they are the trace; one `\n` more only where the trace
-/// ends in a line without it. Of a trace over its limit the lines that are ended, each with its `\n`, and the open line
-/// behind them are the bytes that were read.
-pub fn lines_are_cut_at_newlines()
-    ensures whole { CutsAtNewlines }
-    ensures over_limit { LeavesOneOpen }
-{}
-
-/// A command that was read brings no more than a replacement may.
-pub fn commands_bring_what_fits()
-    ensures { ReadsFittingCommands }
 {}

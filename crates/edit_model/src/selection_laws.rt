@@ -1,6 +1,6 @@
 //! What edits make of the selection and of the composing region: each law is the contract of a function that does nothing.
 
-ghost use Rattle.edit_model.specs.SelectionLaws.{ScalesInside, SelectsPlaces, LeavesNoSelection, MarksPlaces, DropsRegions, PlansFittingItems, AsksInOrder, CountsWithin};
+ghost use Rattle.edit_model.specs.SelectionLaws.{ScalesInside, SelectsPlaces, LeavesNoSelection, MarksPlaces, DropsRegions, ResolvesInOrder};
 
 /// A select puts the selection at its places, and a deselect leaves none. Ends of it inside a replaced range stay in
 /// the text that comes, and in order.
@@ -17,10 +17,8 @@ pub fn regions_come_and_go()
     ensures drops { DropsRegions }
 {}
 
-/// The items of a command bring no more than a replacement may, and what they ask for at their turn keeps texts well
-/// formed. Counted characters end in the text.
-pub fn connections_ask_for_what_fits()
-    ensures items { PlansFittingItems }
-    ensures asks { AsksInOrder }
-    ensures counts { CountsWithin }
+/// The step that an item is resolved to at its turn keeps a text well formed, where it brings what it may and may have
+/// its turn.
+pub fn items_resolve_in_order()
+    ensures { ResolvesInOrder }
 {}

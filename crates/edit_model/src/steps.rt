@@ -1,4 +1,4 @@
-//! The edits that a text can be asked for.
+//! The edits of a text, each as a step that is judged and done.
 
 use edit_base::{Incoming, What};
 

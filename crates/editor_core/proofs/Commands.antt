@@ -1,17 +1,17 @@
 -- What a command prints and leaves, from what its parts print and leave.
 use Rattle.std.proofs.Common.{◌≡◌, ◌∙◌, ℕ, List, ◌++◌, refl, sym, ap, append_assoc}
-use Rattle.edit_model.specs.declared.commands.Command.{Command}
+use Rattle.trace_model.specs.declared.commands.Command.{Command}
 use Rattle.edit_model.specs.declared.items.Planned.{Planned}
-use Rattle.edit_model.specs.declared.reports.Report.{Report}
+use Rattle.trace_model.specs.declared.reports.Report.{Report}
 use Rattle.edit_model.specs.State.{State}
 use Rattle.edit_model.specs.Minds.{Mind}
 use Rattle.edit_model.specs.Machine.{Setup, Scene}
 use Rattle.edit_model.specs.Outcome.{outcomes}
-use Rattle.edit_model.specs.Items.{items_of, items_in}
-use Rattle.edit_model.specs.Report.{nesting_behind, last_report}
-use Rattle.edit_model.specs.Printed.{header_line}
-use Rattle.edit_model.specs.Output.{Session, standing, scene_of, scene_behind, name_of, log_lines, reply_lines, report_lines, lines_of, command_bytes, session_behind}
-use Rattle.editor_core.specs.Editors.{scene_at}
+use Rattle.trace_model.specs.Items.{items_of, items_in}
+use Rattle.trace_model.specs.Report.{nesting_behind, last_report}
+use Rattle.trace_model.specs.Printed.{header_line}
+use Rattle.trace_model.specs.Output.{Session, standing, scene_of, scene_behind, name_of, log_lines, reply_lines, report_lines, lines_of, command_bytes, session_behind}
+use Rattle.edit_model.specs.Machine.{scene_at}
 use Rattle.editor_core.proofs.Swaps.{swap-reply}
 
 -- the scene behind the items of a command

@@ -1,12 +1,12 @@
 -- The items of a command, run one behind the other.
-use Rattle.std.proofs.Common.{◌≡◌, ◌≤◌, ◌<◌, ◌∙◌, ℕ, ◌+◌, List, [], ◌∷◌, ◌++◌, length, map, drop, get_or, refl, sym, ap, subst, append-nil}
+use Rattle.std.proofs.Common.{◌≡◌, ◌≤◌, ◌<◌, ◌∙◌, ℕ, ◌+◌, List, [], ◌∷◌, ◌++◌, length, map, drop, get_or, refl, sym, ap, subst, append-nil, arith}
 use Rattle.std.proofs.lemmas.List.{drop_more, drop_all, length-map}
 use Rattle.std.specs.List.{All}
 use Rattle.edit_model.specs.declared.entries.LogEntry.{LogEntry}
 use Rattle.edit_model.specs.declared.filters.Filter.{Filter}
 use Rattle.edit_model.specs.declared.items.Item.{Item}
 use Rattle.edit_model.specs.State.{State}
-use Rattle.edit_model.specs.Fitting.{IsReady}
+use Rattle.edit_model.specs.Fitting.{HasTurn}
 use Rattle.edit_model.specs.Changed.{Effect}
 use Rattle.edit_model.specs.Minds.{Mind}
 use Rattle.edit_model.specs.Machine.{Setup, Scene, Task, Reaches, at, run_item}
@@ -14,18 +14,18 @@ use Rattle.edit_model.specs.Outcome.{outcome, outcomes}
 use Rattle.edit_model.proofs.MachineRuns.{reaches_none, reaches_on, ends_once}
 use Rattle.edit_model.proofs.Outcomes.{ends-outcome, ends-outcomes}
 use Rattle.watcher_rounds.specs.Rounds.{Takes, stands, Runs, ComesThrough}
-use Rattle.editor_core.specs.Editors.{AreReady, ComesBy}
+use Rattle.editor_core.specs.Editors.{HaveTurns, ComesBy}
 use Rattle.editor_core.proofs.Machine.{front, reaches_ahead}
 
 -- some items were run, and others are left, each of which may have its turn
 pub record Ran (r : Setup) (items left : List Item) (old : Scene) (now : List Effect → Scene) : Type 0 where
   pub effects : List Effect
   pub through : Reaches r (at old (map run_item items)) (at (now effects) (map run_item left))
-  pub turns : AreReady r left (now effects)
+  pub turns : HaveTurns r left (now effects)
 
 -- before the first item
 pub ran-none : (r : Setup) (items : List Item) (state : State) (minds : List Mind) (log : List LogEntry) → log ≡ []
-    → AreReady r items (stands state minds [] 0 []) → Ran r items items (stands state minds [] 0 []) (stands state minds log 0)
+    → HaveTurns r items (stands state minds [] 0 []) → Ran r items items (stands state minds [] 0 []) (stands state minds log 0)
 ran-none r items state minds log empty turns =
     subst (λ (log : List LogEntry). Ran r items items (stands state minds [] 0 []) (stands state minds log 0)) (sym empty)
     (record { effects = []; through = reaches_none r (at (stands state minds [] 0 []) (map run_item items)); turns = turns })
@@ -57,7 +57,7 @@ ran-more {r = r} {left = left} {it = it} {state = state} {after = after} {minds 
     record {
       effects = ran.effects ++ runs.effects;
       through = reaches_on ran.through (item_ends ran.effects (map run_item left) runs);
-      turns = subst (AreReady r left) same ran.turns.1;
+      turns = subst (HaveTurns r left) same ran.turns.1;
     }
 
 -- it comes through here
@@ -128,7 +128,7 @@ module _ (used filters : List Filter) (slots : List ℕ) (depth : ℕ) (same : u
   first_is : Ran (set_to filters slots depth) items (it ∷ drop (i + 1) items) old (stands state minds log begun)
   first_is = subst (λ left. Ran (set_to filters slots depth) items left old (stands state minds log begun)) (next_item items i it within is) ran
 
-  pub turn-next : IsReady state it
+  pub turn-next : HasTurn state it
   turn-next = first_is.turns.0
 
   pub ran-next : {F : Type 0} {takes : Takes F} {first last : F} {after : State} {kept : List Mind} {more : List LogEntry} {spent : ℕ}
@@ -151,6 +151,10 @@ pub ran-all : {r : Setup} {items : List Item} {i : ℕ} {old : Scene} {state : S
     → (state ≡ (outcomes r items old).state) × (minds ≡ (outcomes r items old).minds) × (log ≡ (outcomes r items old).log)
 ran-all {r = r} {items = items} {i = i} {old = old} {state = state} {minds = minds} {log = log} {begun = begun} past ran =
     ran-whole (subst (λ left. Ran r items left old (stands state minds log begun)) (drop_all i items past) ran)
+
+-- a list of no items has none at any place
+pub none_past : {P : Type 0} {items : List Item} (i : ℕ) → i < length items → items ≡ [] → P
+none_past i within none = absurd (omega (arith, ap length none))
 
 -- the slots' places are on the shelf whose watchers have these minds
 pub on-shelf : {X Y : Type 0} (f : X → Y) (boxes : List X) (places : List ℕ) → All (λ place. place < length boxes) places

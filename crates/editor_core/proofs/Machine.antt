@@ -2,7 +2,7 @@
 use Rattle.std.proofs.Common.{◌≡◌, ◌∙◌, ℕ, zero, suc, ◌+◌, Bool, true, false, cond, List, [], ◌∷◌, ◌++◌, refl, sym, ap, subst, append_assoc}
 use Rattle.edit_model.specs.Changed.{Effect, change_of}
 use Rattle.edit_model.specs.Minds.{answer_after, answer_span}
-use Rattle.edit_model.specs.Machine.{Setup, Scene, Config, Task, at, run_item, do_rest, make_change, tell_before, tell_changed, tell_after, tell_span, rest_of, asked_by, resolved, is_barred, sets_off, edit_logged, with_one_begun, answer_dropped, answer_begun, changed_by, mind_in, task_done, steps, Reaches}
+use Rattle.edit_model.specs.Machine.{Setup, Scene, Config, Task, at, run_item, do_rest, make_change, tell_before, tell_changed, tell_after, tell_span, rest_of, resolved_edit, resolved, is_barred, sets_off, edit_logged, with_one_begun, answer_dropped, answer_begun, changed_by, mind_in, task_done, steps, Reaches}
 use Rattle.edit_model.proofs.MachineRuns.{reaches_none, reaches_on, reaches_step}
 
 -- effects that were there before
@@ -22,11 +22,11 @@ task_ahead : (r : Setup) (task : Task) (es : List Effect) (s : Scene) (tasks res
 task_ahead r (run_item it) es s tasks rest =
     ap (at (front es (edit_logged r 0 (resolved s.state it) s))) (sym (append_assoc (sets_off r 0 (resolved s.state it) s.state s.begun) tasks rest))
 task_ahead r (do_rest first others depth) es s tasks rest =
-    let off : List Task = sets_off r depth (asked_by first) s.state s.begun in
-    let begun : Scene = front es (with_one_begun (edit_logged r depth (asked_by first) s)) in
-    ap (λ (ts : List Task). cond (is_barred r.depth depth s.begun) (at (front es (edit_logged r depth (asked_by first) s)) (tasks ++ rest)) (at begun ts))
+    let off : List Task = sets_off r depth (resolved_edit first) s.state s.begun in
+    let begun : Scene = front es (with_one_begun (edit_logged r depth (resolved_edit first) s)) in
+    ap (λ (ts : List Task). cond (is_barred r.depth depth s.begun) (at (front es (edit_logged r depth (resolved_edit first) s)) (tasks ++ rest)) (at begun ts))
     (sym (append_assoc off (rest_of others depth ++ tasks) rest ∙ ap (λ (ts : List Task). off ++ ts) (append_assoc (rest_of others depth) tasks rest)))
-    ∙ ahead_if es rest (is_barred r.depth depth s.begun) (answer_dropped r (asked_by first) depth s tasks) (answer_begun r (asked_by first) others depth s tasks)
+    ∙ ahead_if es rest (is_barred r.depth depth s.begun) (answer_dropped r (resolved_edit first) depth s tasks) (answer_begun r (resolved_edit first) others depth s tasks)
 task_ahead r (make_change asked) es s tasks rest =
     ap (λ (effects : List Effect). at (record { state = (changed_by asked s).state; minds = s.minds; log = s.log; begun = s.begun; effects = effects }) (tasks ++ rest))
     (append_assoc es s.effects (change_of s.state asked ∷ []))

@@ -1,13 +1,13 @@
 -- What a command is answered, and what its items log: one of them is nothing.
 use Rattle.std.proofs.Common.{◌≡◌, ℕ, List, [], ◌++◌, refl, sym, append-nil}
-use Rattle.edit_model.specs.declared.commands.Command.{Command}
-use Rattle.edit_model.specs.declared.commands.Command.TheVariants as commands
+use Rattle.trace_model.specs.declared.commands.Command.{Command}
+use Rattle.trace_model.specs.declared.commands.Command.TheVariants as commands
 use Rattle.edit_model.specs.declared.items.Planned.{Planned}
 use Rattle.edit_model.specs.declared.items.Planned.TheVariants.{Items, Absent, Ignored}
 use Rattle.edit_model.specs.Machine.{Setup}
 use Rattle.edit_model.specs.Outcome.{outcomes}
-use Rattle.edit_model.specs.Items.{items_of, items_in}
-use Rattle.edit_model.specs.Output.{Session, scene_of, planned_line, log_lines, reply_lines}
+use Rattle.trace_model.specs.Items.{items_of, items_in}
+use Rattle.trace_model.specs.Output.{Session, scene_of, planned_line, log_lines, reply_lines}
 
 -- the two in either order
 abbrev Swap : List ℕ → List ℕ → Type 0

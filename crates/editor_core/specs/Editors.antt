@@ -1,16 +1,19 @@
 -- What an editor stands for, and what stands where a command of it is broken off.
-use Rattle.std.specs.Prelude.{ℕ, ◌≡◌, Bool, true, false, List, [], ◌∷◌, map}
-use Rattle.edit_model.specs.declared.commands.Command.{Command}
+use Rattle.std.specs.Prelude.{ℕ, ◌≡◌, ◌≢◌, Bool, true, false, List, [], ◌∷◌, map}
+use Rattle.edit_base.specs.declared.verdicts.Verdict.TheVariants.{Done}
+use Rattle.trace_model.specs.declared.commands.Command.{Command}
+use Rattle.trace_model.specs.declared.commands.Command.TheVariants as commands
 use Rattle.edit_model.specs.declared.items.Item.{Item}
-use Rattle.edit_model.specs.declared.reports.Report.{Report}
+use Rattle.trace_model.specs.declared.reports.Report.{Report}
 use Rattle.edit_model.specs.State.{State, empty_state}
 use Rattle.edit_model.specs.Minds.{Mind}
-use Rattle.edit_model.specs.Fitting.{IsReady}
-use Rattle.edit_model.specs.Items.{items_of, items_in}
+use Rattle.edit_model.specs.Fitting.{HasTurn}
+use Rattle.edit_model.specs.Verdicts.{judged_range}
+use Rattle.trace_model.specs.Items.{items_of, items_in}
 use Rattle.edit_model.specs.Machine.{Setup, Scene, Task, Reaches, at, run_item}
 use Rattle.edit_model.specs.Outcome.{outcome}
-use Rattle.edit_model.specs.Output.{Session, standing, scene_of}
-use Rattle.edit_model.specs.Report.{no_report}
+use Rattle.trace_model.specs.Output.{Session, standing, scene_of}
+use Rattle.trace_model.specs.Report.{no_report}
 
 -- what contracts see of an editor: what its commands run under, its text, how many batches are open, the last report, and
 -- whether it has met want of memory
@@ -33,14 +36,19 @@ spent editor = record { setup = editor.setup; state = editor.state; nesting = ed
 abbrev pub session_with : Editing → List Mind → Session
 session_with editor minds = standing editor.state minds editor.nesting editor.last
 
--- where items start: nothing is logged, and no nested edit has begun
-abbrev pub scene_at : State → List Mind → Scene
-scene_at state minds = record { state = state; minds = minds; log = []; begun = 0; effects = [] }
+-- no span is looked for: the command isn't the query of spans, or its range is refused
+abbrev pub FindsNoSpan : State → Command → Type 0
+FindsNoSpan state (commands.SpansOver start end) = judged_range state start end ≢ Done
+FindsNoSpan state asked = Unit {0}
+
+-- no work is done for a command: it has no items, and no span is looked for
+abbrev pub IsIdle : State → Command → Type 0
+IsIdle state asked = (items_in (items_of state asked) ≡ []) × FindsNoSpan state asked
 
 -- each item may have its turn, where those before it have come to their outcomes
-abbrev pub AreReady : Setup → List Item → Scene → Type 0
-AreReady r [] s = Unit {0}
-AreReady r (it ∷ items) s = IsReady s.state it × AreReady r items (outcome r it s)
+abbrev pub HaveTurns : Setup → List Item → Scene → Type 0
+HaveTurns r [] s = Unit {0}
+HaveTurns r (it ∷ items) s = HasTurn s.state it × HaveTurns r items (outcome r it s)
 
 -- the run of items comes through this text and these minds, whatever is left to do there
 pub record ComesBy (r : Setup) (items : List Item) (old : Scene) (state : State) (minds : List Mind) : Type 0 where

@@ -2,19 +2,20 @@
 #![tactic(auto, using(crate::proofs::Appending::appending))]
 
 ghost use Rattle.settings_reader.specs.Seen.{as_settings};
-ghost use Rattle.std.specs.Prelude.{◌≡◌, ◌≤◌, ◌++◌, length, map, true, false, IsErr, IfOk, OnOk, OnErr};
+ghost use Rattle.std.specs.Prelude.{◌≡◌, ◌≤◌, ◌++◌, [], length, map, true, false, IsErr, IfOk, OnOk, OnErr};
 ghost use Rattle.std.specs.List.{All};
 ghost use Rattle.edit_base.specs.declared.bounds.TheConstants.Limits.{DEPTH};
 ghost use Rattle.edit_model.specs.Fitting.{IsFittingItem};
-ghost use Rattle.edit_model.specs.Items.{items_of, items_in};
+ghost use Rattle.trace_model.specs.Items.{items_of, items_in};
 ghost use Rattle.edit_model.specs.Outcome.{outcomes};
-ghost use Rattle.edit_model.specs.Report.{nesting_behind, last_report};
-ghost use Rattle.edit_model.specs.Reading.{IsFitting};
-ghost use Rattle.edit_model.specs.Printed.{end_block};
-ghost use Rattle.edit_model.specs.Output.{setup, log_lines, reply_lines, report_lines, command_bytes, session_behind};
+ghost use Rattle.trace_model.specs.Report.{nesting_behind, last_report};
+ghost use Rattle.trace_model.specs.Reading.{IsFitting};
+ghost use Rattle.trace_model.specs.Printed.{end_block};
+ghost use Rattle.trace_model.specs.Output.{setup, log_lines, reply_lines, report_lines, command_bytes, session_behind};
 ghost use Rattle.watcher_rounds.specs.Rounds.{AreOnShelf};
 ghost use Rattle.reply_text.specs.Appended.{Extends};
-ghost use Rattle.editor_core.specs.Editors.{Editing, fresh, spent, session_with, scene_at, AreReady, ComesBy, StoodBy};
+ghost use Rattle.edit_model.specs.Machine.{scene_at};
+ghost use Rattle.editor_core.specs.Editors.{Editing, fresh, spent, session_with, FindsNoSpan, IsIdle, HaveTurns, ComesBy, StoodBy};
 
 use crate::end_block::print_end;
 use crate::planning::{items_in, plan};
@@ -24,7 +25,7 @@ use crate::replies::{
 };
 use crate::running::{print_log, run_items};
 use edit_base::{NoMemory, SpanRow, Steps};
-use edit_model::{Command, Planned};
+use edit_model::Planned;
 use input_link::Link;
 use replace_engine::SpannedText;
 use reply_text::print_header;
@@ -32,6 +33,7 @@ use settings_reader::Settings;
 use std::alloc::Global;
 use std::marker::Model;
 use std::sync::ledger::Ledger;
+use trace_model::Command;
 use trace_words::op_name;
 use watcher_api::{Slots, Watcher};
 use watcher_rounds::Log;
@@ -55,7 +57,7 @@ impl Model for Editor {
     ghost use Rattle.std.specs.Prelude.{◌≤◌, length};
     ghost use Rattle.edit_base.specs.declared.bounds.TheConstants.Limits.{DEPTH};
     ghost use Rattle.edit_model.specs.WellFormed.{IsSeated};
-    ghost use Rattle.edit_model.specs.Output.{setup};
+    ghost use Rattle.trace_model.specs.Output.{setup};
     ghost use Rattle.settings_reader.specs.Seen.{as_settings};
     ghost use Rattle.editor_core.specs.Editors.{Editing};
 
@@ -100,8 +102,8 @@ impl Editor {
     }
 
     /// Runs a command with the watchers of the shelf that stand in the slots, and appends its output: its header with
-    /// this number, what is logged of its items, its reply and a report. Without memory what was in `out` is still its
-    /// prefix, and the text and what the watchers keep are those of some step of the command.
+    /// this number, what is logged of its items, its reply and a report. Without memory `out`, the open batches and the
+    /// last report are as they were, and the text and what the watchers keep are those of some step of the command.
     pub fn command<L: Ledger>(
         &mut self,
         shelf: &mut Vec<Box<dyn Watcher>>,
@@ -117,10 +119,13 @@ impl Editor {
         ensures session { OnOk result (session_with self.new (map (λ b. mind b) shelf.new.items)
             ≡ session_behind self.old.setup (session_with self.old (map (λ b. mind b) shelf.old.items)) command.now) }
         ensures whole { OnOk result (self.new.is_spent ≡ false) }
-        ensures prefix { OnErr result (Extends out.old.items out.new.items) }
+        ensures unprinted { OnErr result (out.new.items ≡ out.old.items) }
+        ensures nesting { OnErr result (self.new.nesting ≡ self.old.nesting) }
+        ensures last { OnErr result (self.new.last ≡ self.old.last) }
         ensures spent { OnErr result (self.new.is_spent ≡ true) }
         ensures within { StoodBy self.old.setup command.now (session_with self.old (map (λ b. mind b) shelf.old.items))
             self.new.state (map (λ b. mind b) shelf.new.items) }
+        ensures idle { IsIdle self.old.state command.now → steps.new ≡ steps.old }
         ensures still { self.old.is_spent ≡ true → IsErr result × (self.new ≡ self.old)
             × (map (λ b. mind b) shelf.new.items ≡ map (λ b. mind b) shelf.old.items) × (out.new.items ≡ out.old.items) }
         ensures setup { self.new.setup ≡ self.old.setup }
@@ -129,17 +134,20 @@ impl Editor {
         if self.is_spent {
             return Err(NoMemory);
         }
+        let (link, printed) = (self.link, out.len());
         match self.perform(shelf, number, command, out, steps) {
             Ok(()) => Ok(()),
             Err(NoMemory) => {
+                self.link = link;
                 self.is_spent = true;
+                out.truncate(printed);
                 Err(NoMemory)
             }
         }
     }
 
-    // Runs a command that finds memory, or doesn't and leaves it to the caller to say so. A reply is one to the text
-    // as it stands before the items: a command that has items has no reply.
+    // Runs a command that finds memory, or doesn't and leaves it to the caller to say so and to take back what it
+    // printed. A reply is one to the text as it stands before the items: a command that has items has no reply.
     fn perform<L: Ledger>(
         &mut self,
         shelf: &mut Vec<Box<dyn Watcher>>,
@@ -157,6 +165,7 @@ impl Editor {
         ensures prefix { OnErr result (Extends out.old.items out.new.items) }
         ensures within { StoodBy self.old.setup command.now (session_with self.old (map (λ b. mind b) shelf.old.items))
             self.new.state (map (λ b. mind b) shelf.new.items) }
+        ensures idle { IsIdle self.old.state command.now → steps.new ≡ steps.old }
         ensures setup { self.new.setup ≡ self.old.setup }
         ensures is_spent { self.new.is_spent ≡ self.old.is_spent }
         ensures slots { AreOnShelf self.new.setup.slots (map (λ b. mind b) shelf.new.items) }
@@ -170,7 +179,7 @@ impl Editor {
     }
 
     // Prints what is answered to a command; a batch begins or ends.
-    #[tactic(auto, using(crate::proofs::Appending::appending), unfolding(edit_model::specs::Output::reply_lines, edit_model::specs::Report::nesting_behind))]
+    #[tactic(auto, using(crate::proofs::Appending::appending), unfolding(trace_model::specs::Output::reply_lines, trace_model::specs::Report::nesting_behind))]
     fn reply<L: Ledger>(
         &mut self,
         command: &Command,
@@ -183,6 +192,7 @@ impl Editor {
             ≡ out.old.items ++ reply_lines self.old.state self.old.nesting command.now) }
         ensures prefix { OnErr result (Extends out.old.items out.new.items) }
         ensures nesting { self.new.nesting ≡ nesting_behind self.old.nesting command.now }
+        ensures idle { FindsNoSpan self.old.state command.now → steps.new ≡ steps.old }
         ensures state { self.new.state ≡ self.old.state }
         ensures last { self.new.last ≡ self.old.last }
         ensures setup { self.new.setup ≡ self.old.setup }
@@ -212,7 +222,7 @@ impl Editor {
         steps: &mut Steps<L>,
     ) -> Result<(), NoMemory>
         requires fitting { All IsFittingItem (items_in planned.now) }
-        requires turns { AreReady self.old.setup (items_in planned.now) (scene_at self.old.state (map (λ b. mind b) shelf.old.items)) }
+        requires turns { HaveTurns self.old.setup (items_in planned.now) (scene_at self.old.state (map (λ b. mind b) shelf.old.items)) }
         requires slots { AreOnShelf self.old.setup.slots (map (λ b. mind b) shelf.old.items) }
         ensures bytes { OnOk result (out.new.items ≡ out.old.items ++ log_lines (outcomes self.old.setup (items_in planned.now)
             (scene_at self.old.state (map (λ b. mind b) shelf.old.items)))) }
@@ -223,6 +233,7 @@ impl Editor {
         ensures prefix { OnErr result (Extends out.old.items out.new.items) }
         ensures within { ComesBy self.old.setup (items_in planned.now) (scene_at self.old.state (map (λ b. mind b) shelf.old.items))
             self.new.state (map (λ b. mind b) shelf.new.items) }
+        ensures idle { items_in planned.now ≡ [] → steps.new ≡ steps.old }
         ensures nesting { self.new.nesting ≡ self.old.nesting }
         ensures last { self.new.last ≡ self.old.last }
         ensures setup { self.new.setup ≡ self.old.setup }
@@ -257,21 +268,23 @@ impl Editor {
         print_report(self.link.report(&self.text), out)
     }
 
-    /// Appends the end block. Without memory what was in `out` is still its prefix.
+    /// Appends the end block. Without memory `out` is as it was.
     pub fn finish(&mut self, out: &mut Vec<u8>) -> Result<(), NoMemory>
         ensures bytes { OnOk result (out.new.items ≡ out.old.items ++ end_block self.old.state) }
         ensures kept { OnOk result (self.new ≡ self.old) }
-        ensures prefix { OnErr result (Extends out.old.items out.new.items) }
+        ensures unprinted { OnErr result (out.new.items ≡ out.old.items) }
         ensures spent { OnErr result (self.new ≡ spent self.old) }
         ensures still { self.old.is_spent ≡ true → IsErr result × (out.new.items ≡ out.old.items) }
     {
         if self.is_spent {
             return Err(NoMemory);
         }
+        let printed = out.len();
         match print_end(&self.text, out) {
             Ok(()) => Ok(()),
             Err(NoMemory) => {
                 self.is_spent = true;
+                out.truncate(printed);
                 Err(NoMemory)
             }
         }

@@ -3,15 +3,15 @@
 
 ghost use Rattle.std.specs.Prelude.{◌≡◌, ◌++◌, OnOk, OnErr};
 ghost use Rattle.std.specs.List.{flat_map};
-ghost use Rattle.edit_model.specs.Printed.{span_line, standing_lines, end_block};
-ghost use Rattle.edit_model.specs.Report.{report_of};
+ghost use Rattle.trace_model.specs.Printed.{span_line, standing_lines, end_block};
+ghost use Rattle.trace_model.specs.Report.{report_of};
 ghost use Rattle.reply_text.specs.Appended.{Extends};
 
 use edit_base::NoMemory;
-use edit_model::Reply;
 use input_link::report_of;
 use replace_engine::SpannedText;
 use reply_text::{print_reply, print_span, print_units};
+use trace_model::Reply;
 
 /// Appends the end block of a text. Without memory what was in `out` is still its prefix.
 pub fn print_end(text: &SpannedText, out: &mut Vec<u8>) -> Result<(), NoMemory>

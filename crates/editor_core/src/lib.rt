@@ -10,6 +10,3 @@ mod replies;
 mod running;
 
 pub use editor::{Editor, Summary};
-
-#[cfg(test)]
-mod tests;

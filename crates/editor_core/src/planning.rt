@@ -1,21 +1,22 @@
 //! What a command asks its text for.
 
-ghost use Rattle.std.specs.Prelude.{◌≡◌, ◌||◌, [], ◌∷◌, IfOk};
+ghost use Rattle.std.specs.Prelude.{◌≡◌, [], ◌∷◌, IfOk};
 ghost use Rattle.edit_model.specs.declared.items.Item.TheVariants as item;
 ghost use Rattle.edit_model.specs.declared.items.Planned.TheVariants as planned;
-ghost use Rattle.edit_model.specs.Verdicts.{goes_beyond, goes_below};
-ghost use Rattle.edit_model.specs.Items.{items_of, items_in, selection_planned};
+ghost use Rattle.trace_model.specs.Items.{items_of, items_in, selection_planned};
 
 use edit_base::{Edit, Incoming, Items, NoMemory};
-use edit_model::{Command, Item, Planned};
+use edit_model::{Item, Planned};
 use input_link::{
     commit, compose, delete_around, delete_points, deselect_items, finish, region, select_items,
 };
 use replace_engine::SpannedText;
+use span_flags::{goes_below, goes_beyond};
 use std::alloc::Global;
+use trace_model::Command;
 
 /// The items of a command, or that there is nothing to work on. A query, and a batch that begins or ends, have none.
-#[tactic(auto, unfolding(edit_model::specs::Items::items_of))]
+#[tactic(auto, unfolding(trace_model::specs::Items::items_of))]
 pub fn plan(alloc: Global, text: &SpannedText, command: &Command) -> Result<Planned, NoMemory>
     ensures { IfOk result (λ it. it ≡ items_of text.now.state command.now) }
 {
@@ -104,11 +105,7 @@ fn replacement(
 ) -> Result<Planned, NoMemory>
     ensures { IfOk result (λ it. it ≡ planned.Items (item.Replace start end incoming.now ∷ [])) }
 {
-    let incoming = Incoming {
-        units: Items::from_vec(incoming.units.as_slice().to_vec(alloc)?),
-        spans: Items::from_vec(incoming.spans.as_slice().to_vec(alloc)?),
-        composing: incoming.composing,
-    };
+    let incoming = incoming.copy(alloc)?;
     one(
         alloc,
         Item::Replace {
@@ -123,19 +120,9 @@ fn replacement(
 fn selection(alloc: Global, text: &SpannedText, start: i32, end: i32) -> Result<Planned, NoMemory>
     ensures { IfOk result (λ it. it ≡ selection_planned text.now.state start end) }
 {
-    if lies_outside(start, end, text) {
+    if goes_beyond(text.len(), start, end) || goes_below(start, end) {
         Ok(Planned::Ignored)
     } else {
         one(alloc, select_items(start, end))
     }
-}
-
-// Whether one of the places lies outside the text.
-fn lies_outside(start: i32, end: i32, text: &SpannedText) -> bool
-    ensures { result ≡ (goes_beyond text.now.state start end || goes_below start end) }
-{
-    let length = i64::from(text.len());
-    let beyond = i64::from(start) > length || i64::from(end) > length;
-    let below = start < 0 || end < 0;
-    beyond || below
 }

@@ -1,7 +1,7 @@
 //! The queries of a trace, and their answers.
 #![tactic(auto, using(crate::proofs::Appending::appending))]
 
-ghost use Rattle.std.specs.Prelude.{◌≡◌, ◌<◌, ◌^◌, ◌++◌, length, OnOk, OnErr};
+ghost use Rattle.std.specs.Prelude.{◌≡◌, ◌≢◌, ◌<◌, ◌^◌, ◌++◌, length, OnOk, OnErr};
 ghost use Rattle.std.specs.List.{flat_map};
 ghost use Rattle.edit_base.specs.declared.rows.Pick.TheVariants.{All};
 ghost use Rattle.edit_model.specs.State.{place};
@@ -9,18 +9,20 @@ ghost use Rattle.edit_model.specs.Over.{over, next_edge};
 ghost use Rattle.edit_model.specs.Verdicts.{judged_range};
 ghost use Rattle.edit_model.specs.Rows.{spans_in};
 ghost use Rattle.edit_model.specs.Log.{range_logged};
-ghost use Rattle.edit_model.specs.Printed.{span_line, found_lines, edge_line, reply_line};
-ghost use Rattle.edit_model.specs.Output.{answer_lines};
+ghost use Rattle.trace_model.specs.Printed.{span_line, found_lines, edge_line, reply_line};
+ghost use Rattle.trace_model.specs.Output.{answer_lines};
 ghost use Rattle.reply_text.specs.Appended.{Extends};
 
-use crate::ranges::{judge_range, place_of};
+use crate::ranges::judge_range;
 use edit_base::{NoMemory, Pick, SpanRow, Steps, Verdict};
-use edit_model::{Logged, Reply};
+use edit_model::Logged;
 use replace_engine::SpannedText;
 use reply_text::{print_reply, print_span};
+use span_flags::place_of;
 use std::sync::ledger::Ledger;
+use trace_model::Reply;
 
-/// Prints the spans over a range, or the refusal of the range.
+/// Prints the spans over a range, or the refusal of the range, for which no step is taken.
 pub fn print_spans_over<L: Ledger>(
     start: i32,
     end: i32,
@@ -33,6 +35,7 @@ pub fn print_spans_over<L: Ledger>(
         ++ answer_lines text.now.state (judged_range text.now.state start end)
         (found_lines (over (place start) (place end) All text.now.state.spans))) }
     ensures err { OnErr result (Extends out.old.items out.new.items) }
+    ensures refused { judged_range text.now.state start end ≢ Verdict.Done → steps.new ≡ steps.old }
 {
     let verdict = judge_range(start, end, text);
     let Verdict::Done = verdict else {

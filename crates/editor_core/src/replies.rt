@@ -3,16 +3,17 @@
 
 ghost use Rattle.std.specs.Prelude.{◌≡◌, ◌++◌, OnOk, OnErr};
 ghost use Rattle.edit_model.specs.Selection.{text_before, text_after, selected};
-ghost use Rattle.edit_model.specs.Printed.{text_line, selected_line, report_line};
-ghost use Rattle.edit_model.specs.Output.{verdict_line, planned_line};
+ghost use Rattle.trace_model.specs.Printed.{text_line, selected_line, report_line};
+ghost use Rattle.trace_model.specs.Output.{verdict_line, planned_line};
 ghost use Rattle.reply_text.specs.Appended.{Extends};
 
 use edit_base::{NoMemory, Verdict};
-use edit_model::{Logged, Planned, Reply, Report};
+use edit_model::{Logged, Planned};
 use replace_engine::SpannedText;
 use reply_text::{print_reply, print_units};
 use selection_ops::{selected, text_after, text_before};
 use std::alloc::Global;
+use trace_model::{Reply, Report};
 
 /// Prints so many units before the selection.
 pub fn print_before(

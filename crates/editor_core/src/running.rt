@@ -8,11 +8,12 @@ ghost use Rattle.edit_base.specs.declared.bounds.TheConstants.Limits.{DEPTH};
 ghost use Rattle.edit_model.specs.Fitting.{IsFittingItem};
 ghost use Rattle.edit_model.specs.WellFormed.{IsSeated};
 ghost use Rattle.edit_model.specs.Outcome.{outcomes};
-ghost use Rattle.edit_model.specs.Printed.{entry_line};
-ghost use Rattle.edit_model.specs.Output.{setup};
+ghost use Rattle.trace_model.specs.Printed.{entry_line};
+ghost use Rattle.trace_model.specs.Output.{setup};
 ghost use Rattle.watcher_rounds.specs.Rounds.{AreOnShelf};
 ghost use Rattle.reply_text.specs.Appended.{Extends};
-ghost use Rattle.editor_core.specs.Editors.{scene_at, AreReady, ComesBy};
+ghost use Rattle.edit_model.specs.Machine.{scene_at};
+ghost use Rattle.editor_core.specs.Editors.{HaveTurns, ComesBy};
 
 use edit_base::{NoMemory, Steps};
 use edit_model::{Item, LogEntry};
@@ -36,7 +37,7 @@ pub fn run_items<L: Ledger>(
     steps: &mut Steps<L>,
 ) -> Result<(), NoMemory>
     requires fitting { All IsFittingItem items.now }
-    requires turns { AreReady (setup (as_settings settings.now) slots.now.items) items.now
+    requires turns { HaveTurns (setup (as_settings settings.now) slots.now.items) items.now
         (scene_at text.old.state (map (λ b. mind b) shelf.old.items)) }
     requires depth { settings.now.depth ≤ DEPTH }
     requires slots { AreOnShelf slots.now.items (map (λ b. mind b) shelf.old.items) }
@@ -51,6 +52,7 @@ pub fn run_items<L: Ledger>(
         (scene_at text.old.state (map (λ b. mind b) shelf.old.items))).log) }
     ensures within { ComesBy (setup (as_settings settings.now) slots.now.items) items.now
         (scene_at text.old.state (map (λ b. mind b) shelf.old.items)) text.new.state (map (λ b. mind b) shelf.new.items) }
+    ensures idle { items.now ≡ [] → steps.new ≡ steps.old }
     ensures slots { AreOnShelf slots.now.items (map (λ b. mind b) shelf.new.items) }
     ensures seats { IsSeated (length slots.now.items) text.new.state.spans }
 {

@@ -8,6 +8,3 @@ mod units;
 pub use edit_base::Incoming;
 pub use edit_model::{Filter, UnitRange};
 pub use filtering::filter_all;
-
-#[cfg(test)]
-mod tests;

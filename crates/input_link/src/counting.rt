@@ -1,10 +1,12 @@
 //! Characters, counted from a place on or back: a pair of surrogates is one.
 
-ghost use Rattle.std.specs.Prelude.{◌≡◌, ◌≤◌, ◌+◌, length, IfSome};
+ghost use Rattle.std.specs.Prelude.{◌≡◌, ◌≤◌, ◌<◌, ◌+◌, ◌-◌, length, IfSome, IfNone};
 ghost use Rattle.text_cut.specs.Halves.{joined};
-ghost use Rattle.edit_model.specs.Items.{is_surrogate, width_before, width_at, counted_back, counted_on};
+ghost use Rattle.trace_model.specs.Items.{is_surrogate, width_before, width_at, counted_back, counted_on};
+ghost use Rattle.input_link.specs.Looked.{looked_back, looked_on};
 
-use edit_base::{is_high, is_low};
+use edit_base::{Steps, is_high, is_low};
+use std::sync::ledger::Ledger;
 use text_cut::Halves;
 
 /// Whether a unit is half of a pair.
@@ -16,11 +18,12 @@ fn is_surrogate(unit: u16) -> bool
 
 /// How many units the character has that ends at a place: none at the text's start, and no answer where half of a pair
 /// stands alone.
-#[tactic(auto, unfolding(edit_model::specs::Items::width_before))]
+#[tactic(auto, unfolding(trace_model::specs::Items::width_before))]
 fn width_before(text: &Halves, at: u32) -> Option<u32>
     requires { at ≤ length (joined text.now) }
     ensures width { result ≡ width_before (joined text.now) at }
     ensures within { IfSome result (λ width. width ≤ at) }
+    ensures some { IfSome result (λ width. 0 < at → 0 < width) }
 {
     if at == 0 {
         return Some(0);
@@ -37,11 +40,12 @@ fn width_before(text: &Halves, at: u32) -> Option<u32>
 
 /// How many units the character has that starts at a place: none at the text's end, and no answer where half of a pair
 /// stands alone.
-#[tactic(auto, unfolding(edit_model::specs::Items::width_at))]
+#[tactic(auto, unfolding(trace_model::specs::Items::width_at))]
 fn width_at(text: &Halves, at: u32) -> Option<u32>
     requires { at ≤ length (joined text.now) }
     ensures width { result ≡ width_at (joined text.now) at }
     ensures within { IfSome result (λ width. at + width ≤ length (joined text.now)) }
+    ensures some { IfSome result (λ width. at < length (joined text.now) → 0 < width) }
 {
     if at >= text.len() {
         return Some(0);
@@ -57,15 +61,24 @@ fn width_at(text: &Halves, at: u32) -> Option<u32>
 }
 
 /// The place so many characters back, at least 0; no answer where half of a pair stands alone before it is reached.
-#[tactic(auto, using(crate::proofs::Counted::back_one, crate::proofs::Counted::back_lone, crate::proofs::Counted::back_end))]
-pub fn counted_back(text: &Halves, count: u32, at: u32) -> Option<u32>
+/// It takes a step for each character that it looks at: no more than units are passed, or looked at up to that half.
+#[tactic(auto, using(crate::proofs::Counted::back_one, crate::proofs::Counted::back_lone, crate::proofs::Counted::back_end, crate::proofs::Counted::back_looked, crate::proofs::Counted::back_looked_lone))]
+pub fn counted_back<L: Ledger>(
+    text: &Halves,
+    count: u32,
+    at: u32,
+    steps: &mut Steps<L>,
+) -> Option<u32>
     requires { at ≤ length (joined text.now) }
     ensures place { result ≡ counted_back (joined text.now) count at }
     ensures within { IfSome result (λ first. first ≤ at) }
+    ensures passed { IfSome result (λ first. steps.new ≤ steps.old + (at - first)) }
+    ensures looked { IfNone result (steps.new ≤ steps.old + looked_back (joined text.now) count at) }
 {
     let mut place = at;
     let mut left = count;
     while left > 0 && place > 0 {
+        steps.tick();
         place -= width_before(text, place)?;
         left -= 1;
     }
@@ -73,16 +86,24 @@ pub fn counted_back(text: &Halves, count: u32, at: u32) -> Option<u32>
 }
 
 /// The place so many characters on, at most the text's end; no answer where half of a pair stands alone before it is
-/// reached.
-#[tactic(auto, using(crate::proofs::Counted::on_one, crate::proofs::Counted::on_lone, crate::proofs::Counted::on_end))]
-pub fn counted_on(text: &Halves, count: u32, at: u32) -> Option<u32>
+/// reached. Its steps are those of a count back.
+#[tactic(auto, using(crate::proofs::Counted::on_one, crate::proofs::Counted::on_lone, crate::proofs::Counted::on_end, crate::proofs::Counted::on_looked, crate::proofs::Counted::on_looked_lone))]
+pub fn counted_on<L: Ledger>(
+    text: &Halves,
+    count: u32,
+    at: u32,
+    steps: &mut Steps<L>,
+) -> Option<u32>
     requires { at ≤ length (joined text.now) }
     ensures place { result ≡ counted_on (joined text.now) count at }
     ensures within { IfSome result (λ last. at ≤ last) }
+    ensures passed { IfSome result (λ last. steps.new ≤ steps.old + (last - at)) }
+    ensures looked { IfNone result (steps.new ≤ steps.old + looked_on (joined text.now) count at) }
 {
     let mut place = at;
     let mut left = count;
     while left > 0 && place < text.len() {
+        steps.tick();
         place += width_at(text, place)?;
         left -= 1;
     }

@@ -1,18 +1,19 @@
 //! What the two deletions ask for: units or characters round the selection go, and it stays with the composing region.
 
-ghost use Rattle.std.specs.Prelude.{◌≡◌, ◌≤◌, length, min, IfOk, IfSome};
+ghost use Rattle.std.specs.Prelude.{◌≡◌, ◌<◌, IfOk};
 ghost use Rattle.text_cut.specs.Halves.{joined};
-ghost use Rattle.edit_model.specs.Selection.{region};
-ghost use Rattle.edit_model.specs.Items.{no_incoming, deletions, spared, around, points_around, delete_around, delete_points};
+ghost use Rattle.trace_model.specs.Items.{no_incoming, deletions, spared, around, points_around, delete_around, delete_points};
 ghost use Rattle.edit_model.specs.declared.items.Planned.TheVariants as plan;
-ghost use Rattle.selection_ops.specs.Places.{LiesIn};
+ghost use Rattle.replace_engine.specs.Places.{LiesIn};
 
 use crate::counting::{counted_back, counted_on};
-use edit_base::{Incoming, Items, NoMemory};
+use edit_base::{Incoming, Items, NoMemory, Steps};
 use edit_model::{Item, Planned};
 use replace_engine::SpannedText;
-use selection_ops::{halves_of, selection_in};
+use selection_ops::halves_of;
 use std::alloc::Global;
+use std::marker::Brand;
+use std::sync::ledger::{Blank, Ledger};
 use text_cut::Halves;
 
 /// What a deletion leaves: all from the first to the last place of selection and region.
@@ -57,19 +58,14 @@ fn deletions(alloc: Global, kept: (u32, u32), before: u32, after: u32) -> Result
 }
 
 /// At most `before` units before a range go, and `after` units behind it.
-pub(crate) fn around(
-    alloc: Global,
-    kept: (u32, u32),
-    before: u32,
-    after: u32,
-) -> Result<Planned, NoMemory>
+fn around(alloc: Global, kept: (u32, u32), before: u32, after: u32) -> Result<Planned, NoMemory>
     ensures { IfOk result (λ planned. planned ≡ around kept before after) }
 {
     deletions(alloc, kept, before.min(kept.0), after)
 }
 
 /// Units round the selection go; without one there is nothing to work on.
-#[tactic(auto, unfolding(edit_model::specs::Items::delete_around))]
+#[tactic(auto, unfolding(trace_model::specs::Items::delete_around))]
 pub fn delete_around(
     alloc: Global,
     text: &SpannedText,
@@ -84,8 +80,8 @@ pub fn delete_around(
     }
 }
 
-/// Characters round the selection go. Where a count meets half of a pair, nothing goes.
-#[tactic(auto, unfolding(edit_model::specs::Items::delete_points))]
+/// Characters round the selection go. Where a count meets half of a pair, nothing goes. It starts a counter of its own.
+#[tactic(auto, unfolding(trace_model::specs::Items::delete_points))]
 pub fn delete_points(
     alloc: Global,
     text: &SpannedText,
@@ -94,38 +90,35 @@ pub fn delete_points(
 ) -> Result<Planned, NoMemory>
     ensures { IfOk result (λ planned. planned ≡ delete_points text.now.state before after) }
 {
-    match selection_in(text) {
+    match text.selection() {
         Some(chosen) => {
-            let kept = spared(chosen, region_in(text));
-            points_around(alloc, &halves_of(text), kept, before, after)
+            let kept = spared(chosen, text.composing());
+            points_around::<Brand>(alloc, &halves_of(text), kept, before, after, Blank::new(1))
         }
         None => Ok(Planned::Absent),
     }
 }
 
-/// The composing region, where there is one: both its ends lie in the text.
-fn region_in(text: &SpannedText) -> Option<(u32, u32)>
-    ensures region { result ≡ region text.now.state.spans }
-    ensures within { IfSome result (LiesIn text.now.state.units) }
-{
-    text.composing()
-}
-
-/// Characters round a range go.
-fn points_around(
+/// Characters round a range go, which are counted on a counter with this blank.
+fn points_around<L: Ledger>(
     alloc: Global,
     text: &Halves,
     kept: (u32, u32),
     before: u32,
     after: u32,
+    blank: Blank,
 ) -> Result<Planned, NoMemory>
-    requires { LiesIn (joined text.now) kept }
+    requires within { LiesIn (joined text.now) kept }
+    requires name { blank.name ≡ L.name }
+    requires parts { blank.parts ≡ L.parts }
+    requires some { 0 < blank.parts }
     ensures { IfOk result (λ planned. planned ≡ points_around (joined text.now) kept before after) }
 {
-    let Some(first) = counted_back(text, before, kept.0) else {
+    let mut steps = Steps::<L>::start(blank);
+    let Some(first) = counted_back(text, before, kept.0, &mut steps) else {
         return Ok(Planned::Ignored);
     };
-    let Some(last) = counted_on(text, after, kept.1) else {
+    let Some(last) = counted_on(text, after, kept.1, &mut steps) else {
         return Ok(Planned::Ignored);
     };
     deletions(alloc, kept, kept.0 - first, last - kept.1)

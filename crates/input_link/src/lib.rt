@@ -11,6 +11,3 @@ pub use deleting::{delete_around, delete_points};
 pub use nesting::Link;
 pub use planning::{commit, compose, deselect_items, finish, region, select_items};
 pub use reporting::report_of;
-
-#[cfg(test)]
-mod tests;

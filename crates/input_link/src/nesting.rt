@@ -2,15 +2,15 @@
 
 ghost use Rattle.std.specs.Prelude.{◌≡◌, ◌≤◌};
 ghost use Rattle.edit_base.specs.declared.bounds.TheConstants.Limits.{NESTING};
-ghost use Rattle.edit_model.specs.Report.{judged_begin, judged_end, begun_nesting, ended_nesting, no_report, report, last_report};
+ghost use Rattle.trace_model.specs.Report.{judged_begin, judged_end, begun_nesting, ended_nesting, no_report, report, last_report};
 
 use crate::reporting::{is_same, report_of};
 use edit_base::{Limits, Refusal, Verdict};
-use edit_model::Report;
 use replace_engine::SpannedText;
+use trace_model::Report;
 
 /// What a connection keeps between commands: how many batches are open, at most 255, and the last report.
-#[derive(Debug, Drop)]
+#[derive(Clone, Copy, Debug)]
 pub struct Link {
     nesting: u32,
     last: Report,
@@ -62,7 +62,7 @@ impl Link {
 
     /// The report behind a command, where one is made: no batch is open, and the places of selection and region aren't
     /// those that were told last.
-    #[tactic(auto, unfolding(edit_model::specs::Report::report))]
+    #[tactic(auto, unfolding(trace_model::specs::Report::report))]
     pub fn report(&mut self, text: &SpannedText) -> Option<Report>
         ensures report { result ≡ report text.now.state self.old.nesting self.old.last }
         ensures last { self.new.last ≡ last_report text.now.state self.old.nesting self.old.last }

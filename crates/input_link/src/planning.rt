@@ -2,17 +2,17 @@
 
 ghost use Rattle.std.specs.Prelude.{◌≡◌, [], ◌∷◌, pos, true, false, IfOk};
 ghost use Rattle.edit_model.specs.declared.items.Item.TheVariants as item;
-ghost use Rattle.edit_model.specs.Items.{cursor_place, with_region, text_items, compose_items, commit_items, finish_items, region_items, select_item};
+ghost use Rattle.trace_model.specs.Items.{cursor_place, with_region, text_items, compose_items, commit_items, finish_items, region_items, select_item};
 ghost use Rattle.edit_model.specs.Selection.{lesser, greater};
 
-use edit_base::{Edit, Incoming, Items, NoMemory};
+use edit_base::{Edit, Incoming, NoMemory};
 use edit_model::Item;
 use replace_engine::SpannedText;
 use selection_ops::cursor_place;
 use std::alloc::Global;
 
 /// The text becomes the composing text, in the place of the composing region or else of the selection.
-#[tactic(auto, unfolding(edit_model::specs::Items::compose_items))]
+#[tactic(auto, unfolding(trace_model::specs::Items::compose_items))]
 pub fn compose(
     alloc: Global,
     text: &SpannedText,
@@ -25,7 +25,7 @@ pub fn compose(
 }
 
 /// The text comes in the place of the composing region or else of the selection, and nothing is composed any more.
-#[tactic(auto, unfolding(edit_model::specs::Items::commit_items))]
+#[tactic(auto, unfolding(trace_model::specs::Items::commit_items))]
 pub fn commit(
     alloc: Global,
     text: &SpannedText,
@@ -77,15 +77,13 @@ fn text_over(range: (u32, u32), incoming: Incoming, cursor: i32) -> [Item; 2]
     [place, write]
 }
 
-/// The same units and spans, with the composing region over them or without one.
+/// A copy, with the composing region over its units or without one.
 fn copied(alloc: Global, incoming: &Incoming, composing: bool) -> Result<Incoming, NoMemory>
     ensures { IfOk result (λ copy. copy ≡ with_region composing incoming.now) }
 {
-    Ok(Incoming {
-        units: Items::from_vec(incoming.units.as_slice().to_vec(alloc)?),
-        spans: Items::from_vec(incoming.spans.as_slice().to_vec(alloc)?),
-        composing,
-    })
+    let mut copy = incoming.copy(alloc)?;
+    copy.composing = composing;
+    Ok(copy)
 }
 
 /// The composing text goes.

@@ -1,10 +1,10 @@
 //! The four numbers of a report.
 
 ghost use Rattle.std.specs.Prelude.{◌≡◌};
-ghost use Rattle.edit_model.specs.Report.{first_place, second_place, report_of, is_same};
+ghost use Rattle.trace_model.specs.Report.{first_place, second_place, report_of, is_same};
 
-use edit_model::Report;
 use replace_engine::SpannedText;
+use trace_model::Report;
 
 /// The places of the selection and of the composing region.
 pub fn report_of(text: &SpannedText) -> Report

@@ -1,15 +1,14 @@
 -- The places of rows, when a row comes or goes.
 use Rattle.std.proofs.Common.{◌≡◌, ◌≢◌, ℕ, ◌+◌, ◌<◌, ◌++◌, true, false, List, [], ◌∷◌, map, length, take, drop, get_or, length-append}
-use Rattle.std.proofs.Common.{refl, sym, subst, ap, ◌∙◌, add-one, eq-eqb, arith}
+use Rattle.std.proofs.Common.{refl, sym, subst, ap, ◌∙◌, add-one, eq-eqb}
 use Rattle.std.specs.List.{IsDistinct, list_any, range_with_len, remove}
 use Rattle.std.specs.List.Sorted.{IsPermutation}
 use Rattle.std.proofs.lemmas.Bool.Decides.{Decides-eqb}
 use Rattle.std.proofs.lemmas.Grind.{get_or_default_zero}
 use Rattle.std.proofs.lemmas.List.{drop-map, get_or-map, length-map, map-append, take-map}
 use Rattle.std.proofs.lemmas.List.Folds.{list_any-from_Any}
-use Rattle.std.proofs.lemmas.List.FromFn.{length-range_with_len}
 use Rattle.std.proofs.lemmas.List.Quantifiers.{all_pairs_push, all_pairs_remove}
-use Rattle.std.proofs.lemmas.List.Sorted.{IsPermutation-append_left, length_permutation}
+use Rattle.std.proofs.lemmas.List.Sorted.{IsPermutation-append_left}
 use Rattle.std.proofs.lemmas.Map.Made.{AllPairs-from_IsDistinct, IsDistinct-from_AllPairs}
 use Rattle.edit_base.specs.declared.rows.SpanRow.{SpanRow}
 use Rattle.edit_model.specs.State.{Span}
@@ -18,19 +17,9 @@ use Rattle.edit_model.specs.Rows.{spans_in}
 use Rattle.span_table.specs.declared.kept.KeptRow.{KeptRow}
 use Rattle.span_table.specs.Table.{kept_span, seen, no_row, without_at}
 use Rattle.interval_tree.specs.Ids.{HaveDistinctIds, ids_given, ids_of, same_number}
-use Rattle.interval_tree.proofs.TallyMore.{range_more}
-
-pub range_next : (n : ℕ) → range_with_len 0 (n + 1) ≡ range_with_len 0 n ++ n ∷ []
-range_next n = range_more 0 n ∙ ap (λ i. range_with_len 0 n ++ i ∷ []) (omega arith)
-
-pub range_long : (n : ℕ) → length (range_with_len 0 n) ≡ n
-range_long n = length-range_with_len 0 n
+use Rattle.interval_tree.proofs.Ranges.{range_long, range_next}
 
 pub ruleset places = (range_next, range_long)
-
--- there are as many places as rows
-pub long_places : (n : ℕ) (xs : List ℕ) → IsPermutation (range_with_len 0 n) xs → length xs ≡ n
-long_places n xs all = length_permutation (range_with_len 0 n) xs all ∙ range_long n
 
 -- one more row
 pub places_more : (n : ℕ) (xs : List ℕ) → IsPermutation (range_with_len 0 n) xs → IsPermutation (range_with_len 0 (n + 1)) (xs ++ n ∷ [])

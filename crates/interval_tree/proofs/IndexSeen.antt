@@ -1,33 +1,20 @@
 -- Spans that are seen as the rows change.
-use Rattle.std.proofs.Common.{◌≡◌, ℕ, Bool, true, false, cond, List, [], ◌∷◌, suc, map, length, refl, ap, ◌∙◌, arith}
+use Rattle.std.proofs.Common.{◌≡◌, ℕ, Bool, true, false, cond, List, [], ◌∷◌, suc, map, length, refl, ap, ◌∙◌}
 use Rattle.std.specs.List.{filter}
 use Rattle.std.proofs.Math.ListN.{set}
-use Rattle.std.proofs.lemmas.Bool.Decides.{nat_tests}
 use Rattle.std.proofs.lemmas.List.{drop-map, map-append, map-set, take-map}
 use Rattle.edit_model.specs.Flags.{is_composing}
 use Rattle.edit_model.specs.State.{Span}
 use Rattle.span_table.specs.declared.kept.KeptRow.{KeptRow}
-use Rattle.span_table.specs.Offsets.{ends_behind, offset_at, place_at, starts_behind}
 use Rattle.span_table.specs.Table.{kept_span, seen, without_at}
+use Rattle.span_table.proofs.Lists.{kept_seen}
 use Rattle.interval_tree.specs.Kinds.{composing_count, is_composing_row}
-
-back_again : (gap room : ℕ) (behind : Bool) (place : ℕ) → place_at gap room (offset_at gap room behind place) ≡ place
-back_again gap room true place = grind (arith, nat_tests)
-back_again gap room false place = grind (arith, nat_tests)
-
-same_ends : (span : Span) (start end : ℕ) → start ≡ span.start → end ≡ span.end
-    → record { id = span.id; start = start; end = end; flags = span.flags; what = span.what } ≡ span
-same_ends span start end starts ends = rw (starts, ends) refl
-
-seen_kept : (gap room : ℕ) (span : Span) → seen gap room (kept_span gap room span) ≡ span
-seen_kept gap room span =
-    same_ends span _ _ (back_again gap room (starts_behind span.flags) span.start) (back_again gap room (ends_behind span.flags) span.end)
 
 -- the row at a place becomes that of a span
 pub seen_changed : (gap room : ℕ) (kept : List KeptRow) (i : ℕ) (span : Span)
     → map (seen gap room) (set kept i (kept_span gap room span)) ≡ set (map (seen gap room) kept) i span
 seen_changed gap room kept i span =
-    map-set (seen gap room) kept i (kept_span gap room span) ∙ ap (set (map (seen gap room) kept) i) (seen_kept gap room span)
+    map-set (seen gap room) kept i (kept_span gap room span) ∙ ap (set (map (seen gap room) kept) i) (kept_seen gap room span)
 
 pub spans_changed : (gap room : ℕ) (kept : List KeptRow) (new_gap new_room : ℕ) (changed : List KeptRow) (i : ℕ) (span : Span)
     → new_gap ≡ gap → new_room ≡ room → changed ≡ set kept i (kept_span gap room span)

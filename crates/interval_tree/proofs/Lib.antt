@@ -13,6 +13,7 @@ pub mod QueryLists
 pub mod QueryOrder
 pub mod QuerySeats
 pub mod QueryTree
+pub mod Ranges
 mod TallyLess
 mod TallyMore
 pub mod WalkEmptied

@@ -5,8 +5,6 @@ use Rattle.std.specs.List.Sorted.{IsPermutation}
 use Rattle.std.proofs.lemmas.Bool.{cases_lt}
 use Rattle.std.proofs.lemmas.Bool.Decides.{nat_tests}
 use Rattle.std.proofs.lemmas.List.{ext_get_or, get_or-map, get_or-set_other, get_or_append_left, length-map, length-set}
-use Rattle.std.proofs.lemmas.List.Elements.{All-from_get_or}
-use Rattle.std.proofs.lemmas.List.FromFn.{get_or-range_with_len, length-range_with_len}
 use Rattle.std.proofs.lemmas.List.Sorted.{All-permutation, IsPermutation-refl, IsPermutation-to_front, IsPermutation-trans, length_permutation}
 use Rattle.std.proofs.Math.ListN.{set}
 use Rattle.span_table.specs.declared.kept.KeptRow.{KeptRow}
@@ -14,10 +12,7 @@ use Rattle.span_table.specs.Table.{kept_at, no_row}
 use Rattle.interval_tree.specs.Tree.{IsIndex, IsPlaced, Topped, apart, kept_end}
 use Rattle.interval_tree.specs.Ids.{HaveDistinctIds, IsById}
 use Rattle.interval_tree.proofs.IndexPlaces.{places_more}
-
-pub all_range : (n : ℕ) → All (λ i. i < n) (range_with_len 0 n)
-all_range n = All-from_get_or (λ i. i < n) (range_with_len 0 n) 0
-    (λ k below. let inside : k < n = omega (arith, below, length-range_with_len 0 n) in rw (get_or-range_with_len 0 n k 0 inside) (omega (arith, inside)))
+use Rattle.interval_tree.proofs.Ranges.{all_range, long_places}
 
 module _ (n : ℕ) (places : List ℕ) (placed : IsPlaced n places) where
   pub placed_within : All (λ i. i < length places) places
@@ -63,7 +58,7 @@ module _ (n : ℕ) (places : List ℕ) (placed : IsPlaced n places) where
 -- the places of all rows
 pub whole_placed : (n : ℕ) (places : List ℕ) → IsPermutation (range_with_len 0 n) places → IsPlaced n places
 whole_placed n places all =
-    let long : length places ≡ n = length_permutation _ _ all ∙ length-range_with_len 0 n in
+    let long : length places ≡ n = long_places n places all in
     record {
       all = subst (λ m. IsPermutation (range_with_len 0 m) places) (sym long) all;
       most = omega (arith, long);

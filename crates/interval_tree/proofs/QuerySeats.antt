@@ -3,7 +3,6 @@ use Rattle.std.proofs.Common.{◌≡◌, ℕ, ◌+◌, ◌<◌, ◌≤◌, ◌&&
 use Rattle.std.specs.List.{All, filter, range_with_len}
 use Rattle.std.specs.Result.{OnOk}
 use Rattle.std.proofs.lemmas.List.{length-map, length-take-le, take_more}
-use Rattle.std.proofs.lemmas.List.FromFn.{length-range_with_len}
 use Rattle.std.proofs.lemmas.List.Elements.{All-filter, All-head, All-tail}
 use Rattle.edit_base.specs.declared.rows.Pick.TheVariants.{All as Every, Watches}
 use Rattle.edit_base.specs.declared.rows.SpanRow.{SpanRow}
@@ -13,9 +12,10 @@ use Rattle.edit_model.specs.Over.{is_watch, lies_over}
 use Rattle.interval_tree.specs.declared.walk.Asked.{Asked}
 use Rattle.interval_tree.specs.declared.walk.Asked.TheVariants.{Over}
 use Rattle.interval_tree.specs.Kinds.{seats_of}
+use Rattle.span_table.specs.declared.kept.KeptRow.{KeptRow}
 use Rattle.span_table.specs.Table.{Rows, kept_at, seen, span_at, spans_of}
 use Rattle.interval_tree.specs.Walk.{answers, found, row_at}
-use Rattle.interval_tree.proofs.Placed.{all_range}
+use Rattle.interval_tree.proofs.Ranges.{all_range, range_long}
 use Rattle.interval_tree.proofs.QueryTree.{seen_at}
 use Rattle.interval_tree.proofs.WalkParts.{filter_short, found_append, found_short, row_is}
 
@@ -79,13 +79,8 @@ seats_found start end rows =
     ap (λ watch. lies_over start end (span_at (spans_of rows) i) && watch) same
     ∙ every_kind (lies_over start end (span_at (spans_of rows) i)) (is_watch (kept_at rows.kept i).what)))
 
-pub seats_few : (rows : Rows) → length (seats_of rows.kept) ≤ length rows.kept
-seats_few rows = omega (
-  arith,
-  filter_short (λ i. is_watch (kept_at rows.kept i).what) (range_with_len 0 (length rows.kept)),
-  length-range_with_len 0
-      (length rows.kept),
-)
+pub seats_few : (kept : List KeptRow) → length (seats_of kept) ≤ length kept
+seats_few kept = omega (arith, filter_short (λ i. is_watch (kept_at kept i).what) (range_with_len 0 (length kept)), range_long (length kept))
 
 -- ---- a seat more
 

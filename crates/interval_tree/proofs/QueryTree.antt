@@ -14,9 +14,9 @@ use Rattle.span_table.specs.Table.{AreOffsets, Rows, kept_at, no_row, no_span, s
 use Rattle.interval_tree.specs.Answers.{IsWithin, near_count}
 use Rattle.interval_tree.specs.Tree.{IsIndex, apart, kept_end, kept_start}
 use Rattle.interval_tree.specs.Walk.{IsBound, IsBranch, IsWalk, near}
-use Rattle.interval_tree.proofs.IndexPlaces.{long_places}
-use Rattle.interval_tree.proofs.Placed.{all_range, apart_few, placed_all, placed_below}
+use Rattle.interval_tree.proofs.Placed.{apart_few, placed_all, placed_below}
 use Rattle.interval_tree.proofs.QueryLists.{filter-map, filter_length, read_all}
+use Rattle.interval_tree.proofs.Ranges.{all_range, long_places}
 
 -- a later offset is no earlier place
 climbs : (gap room x y : ℕ) → IsOffset gap room x → IsOffset gap room y → x ≤ y → place_at gap room x ≤ place_at gap room y

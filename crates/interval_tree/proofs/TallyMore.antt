@@ -5,21 +5,16 @@ use Rattle.std.specs.List.{All, filter, list_all, range_with_len}
 use Rattle.std.proofs.Math.Bool.{and-true}
 use Rattle.std.proofs.lemmas.List.Filters.{length-filter_both}
 use Rattle.std.proofs.lemmas.List.Folds.{list_all-append}
-use Rattle.std.proofs.lemmas.List.{get_or_append_left, map-id}
+use Rattle.std.proofs.lemmas.List.{get_or_append_left}
 use Rattle.std.proofs.Math.Seq.{get_or-append_seam}
 use Rattle.std.proofs.lemmas.List.Elements.{All-weaker, filter-append}
-use Rattle.std.proofs.lemmas.List.FromFn.{length-range_with_len, get_or-range_with_len, map-range_with_len_more}
 use Rattle.edit_model.specs.Over.{is_watch}
 use Rattle.span_table.specs.declared.kept.KeptRow.{KeptRow}
 use Rattle.span_table.specs.Table.{kept_at, no_row}
 use Rattle.interval_tree.specs.Kinds.{IsTally, is_ahead, is_composing_row, is_paragraph_row, most_seats, seats_of}
+use Rattle.interval_tree.proofs.Ranges.{all_range, range_more}
 
 -- ---- lists
-
-pub range_more : (a n : ℕ) → range_with_len a (n + 1) ≡ range_with_len a n ++ (a + n) ∷ []
-range_more a n =
-    sym (map-id (range_with_len a (n + 1))) ∙ map-range_with_len_more (λ x. x) a n (a + n) refl
-    ∙ ap (λ xs. xs ++ (a + n) ∷ []) (map-id (range_with_len a n))
 
 -- tests that agree on the elements of a list
 pub filter_alike : {X : Type 0} (p q : X → Bool) (xs : List X) → All (λ x. p x ≡ q x) xs → filter p xs ≡ filter q xs
@@ -28,9 +23,6 @@ filter_alike p q (x ∷ xs) alike =
     let here : p x ≡ q x = alike 0 x (omega arith) in
     let rest = filter_alike p q xs (λ k d within. alike (suc k) d (omega arith)) in
     rw (here, rest) refl
-
-pub below_range : (n : ℕ) → All (λ i. i < n) (range_with_len 0 n)
-below_range n k d within = let long = length-range_with_len 0 n in rw (get_or-range_with_len 0 n k d (omega arith)) (omega arith)
 
 -- ---- one more row
 
@@ -59,7 +51,7 @@ more_seats kept row =
     ∙ filter-append is_seat (range_with_len 0 n) ((0 + n) ∷ [])
     ∙ ap (λ front. front ++ filter is_seat ((0 + n) ∷ [])) (filter_alike is_seat (λ i. is_watch (kept_at kept i).what) (range_with_len 0 n)
     (All-weaker (λ i. i < n) (λ i. is_seat i ≡ is_watch (kept_at kept i).what)
-    (λ i h. ap (λ there. is_watch there.what) (get_or_append_left kept (row ∷ []) no_row i h)) (range_with_len 0 n) (below_range n)))
+    (λ i h. ap (λ there. is_watch there.what) (get_or_append_left kept (row ∷ []) no_row i h)) (range_with_len 0 n) (all_range n)))
     ∙ ap (λ i. seats_of kept ++ cond (is_watch (kept_at all i).what) (i ∷ []) []) (omega arith)
     ∙ ap (λ there. seats_of kept ++ cond (is_watch there.what) (n ∷ []) []) (get_or-append_seam kept row [] no_row)
 

@@ -1,17 +1,11 @@
 -- A row is found in the order by its start.
 use Rattle.std.proofs.Common.{⊎_elim, ℕ, ◌≡◌, ◌≢◌, ◌+◌, ◌-◌, ◌<◌, List, get_or, drop, refl, ap, ◌∙◌, arith, length-drop, Option, Some, None}
-use Rattle.std.specs.List.{All, Contains, range_with_len}
+use Rattle.std.specs.List.{All, range_with_len}
 use Rattle.std.specs.List.Sorted.{IsPermutation}
 use Rattle.std.specs.Option.{IfNone, IsSome}
 use Rattle.std.proofs.lemmas.List.{get_or-drop, get_or_default}
-use Rattle.std.proofs.lemmas.List.FromFn.{get_or-range_with_len, length-range_with_len}
-use Rattle.std.proofs.lemmas.List.Sorted.{Contains-permutation}
 use Rattle.std.proofs.lemmas.Bool.{cases_lt}
-
-pub stands : (n i : ℕ) (xs : List ℕ) → IsPermutation (range_with_len 0 n) xs → i < n → Contains xs i
-stands n i xs p lt =
-    let none : 0 + i ≡ i = omega arith in
-    Contains-permutation (range_with_len 0 n) xs i p (i, omega (arith, length-range_with_len 0 n), get_or-range_with_len 0 n i i lt ∙ none)
+use Rattle.interval_tree.proofs.Ranges.{place_among}
 
 some_from : (r : Option ℕ) (P : Type 0) → IfNone r P → (P → ⊥) → IsSome r
 some_from None P h never = absurd (never h)
@@ -21,7 +15,7 @@ some_from (Some k) P h never = refl
 pub found_behind : (key : ℕ → ℕ) (n i low : ℕ) (xs : List ℕ) (r : Option ℕ) → IsPermutation (range_with_len 0 n) xs → i < n
     → ((k : ℕ) → k < low → key (get_or xs k 0) < key i) → IfNone r (All (λ x. x ≢ i) (drop low xs)) → IsSome r
 found_behind key n i low xs r p lt before none =
-    let at = stands n i xs p lt in
+    let at = place_among n i xs p lt in
     let k = at.0 in
     let is : get_or xs k 0 ≡ i = get_or_default xs k 0 i at.1 ∙ at.2 in
     some_from r (All (λ x. x ≢ i) (drop low xs)) none (λ each. ⊎_elim

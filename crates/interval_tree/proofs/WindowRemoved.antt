@@ -5,19 +5,16 @@ use Rattle.std.specs.List.Sorted.{IsPermutation, IsNonDecreasingBy}
 use Rattle.std.proofs.lemmas.List.{get_or-map, length-map}
 use Rattle.std.proofs.lemmas.List.Edits.{length-remove, get_or-remove_below, get_or-remove_above}
 use Rattle.std.proofs.lemmas.List.Elements.{filter_passes}
-use Rattle.std.proofs.lemmas.List.FromFn.{length-range_with_len}
 use Rattle.std.proofs.lemmas.List.Kept.{IsNonDecreasingBy-filter}
-use Rattle.std.proofs.lemmas.List.Sorted.{IsNonDecreasingBy-from_default, length_permutation}
+use Rattle.std.proofs.lemmas.List.Sorted.{IsNonDecreasingBy-from_default}
 use Rattle.std.proofs.lemmas.Bool.{cases_lt}
 use Rattle.std.proofs.lemmas.Bool.Decides.{nat_tests}
 use Rattle.span_table.specs.declared.kept.KeptRow.{KeptRow}
 use Rattle.span_table.specs.Table.{kept_at, no_row, without_at}
 use Rattle.interval_tree.specs.Tree.{IsIndex, IsPlaced, Topped, kept_start, kept_end}
 use Rattle.interval_tree.specs.Window.{fallen, is_other, taken_out}
+use Rattle.interval_tree.proofs.Ranges.{long_places}
 use Rattle.interval_tree.proofs.WindowPlaces.{taken_permutation}
-
-pub places_count : (n : ℕ) (xs : List ℕ) → IsPermutation (range_with_len 0 n) xs → length xs ≡ n
-places_count n xs p = length_permutation (range_with_len 0 n) xs p ∙ length-range_with_len 0 n
 
 pub other_is : (i p : ℕ) → is_other i p ≡ true → p ≢ i
 other_is i p e same = grind (arith, nat_tests)
@@ -59,7 +56,7 @@ placed_less i old kept places left placed inside within e f =
     let n : length kept ≡ length old - 1 = ap length e ∙ length_after i old within in
     let all : IsPermutation (range_with_len 0 (length places - 1)) left =
     subst (IsPermutation (range_with_len 0 (length places - 1))) (sym f) (taken_permutation i (length places) places inside placed.all) in
-    let long : length left ≡ length places - 1 = places_count _ _ all in
+    let long : length left ≡ length places - 1 = long_places _ _ all in
     record {
       all = subst (λ m. IsPermutation (range_with_len 0 m) left) (sym long) all;
       most = omega (arith, n, long, placed.most, inside);

@@ -2,7 +2,7 @@
 
 ghost use Rattle.std.specs.Prelude.{◌≡◌, ◌≤◌, ◌<◌, ◌↔◌, ◌+◌, ◌-◌, true, ℕ, length, slice_index, vec_len, vec_capacity};
 ghost use Rattle.std.specs.List.Sorted.{IsNonDecreasingBy};
-ghost use Rattle.span_table.specs.Table.{place_of, spans_of};
+ghost use Rattle.span_table.specs.Table.{row_place, spans_of};
 ghost use Rattle.interval_tree.specs.Ids.{HaveDistinctIds, IsById, id_at};
 ghost use Rattle.interval_tree.specs.Tree.{IsPlaced};
 
@@ -12,7 +12,7 @@ use span_table::SpanRows;
 /// a binary search.
 pub fn find(rows: &SpanRows, by_id: &[u32], id: u32) -> Option<u32>
     requires { IsById rows.now.kept by_id.now }
-    ensures { result ≡ place_of id (spans_of rows.now) }
+    ensures { result ≡ row_place id (spans_of rows.now) }
 {
     if is_apart(rows, by_id, id) {
         return Some(rows.count() - 1);

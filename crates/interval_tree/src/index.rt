@@ -9,7 +9,7 @@ ghost use Rattle.edit_model.specs.Over.{next_edge, over};
 ghost use Rattle.edit_model.specs.Rows.{IsAtOrder, span_of, spans_in};
 ghost use Rattle.span_table.specs.Offsets.{bound};
 ghost use Rattle.span_table.specs.Table.{HasRoomFor, IsClearOf, closed_span, kept_span};
-ghost use Rattle.span_table.specs.Table.{place_of, pushed_span, span_at, spans_of, without_at};
+ghost use Rattle.span_table.specs.Table.{row_place, pushed_span, span_at, spans_of, without_at};
 ghost use Rattle.interval_tree.specs.Answers.{IsRising, IsWithin, first_emptied, orders_of, touching};
 ghost use Rattle.interval_tree.specs.Ids.{HaveDistinctIds, ids_given, same_number};
 ghost use Rattle.interval_tree.specs.Kinds.{composing_count, paragraph_count};
@@ -98,7 +98,7 @@ impl SpanIndex {
 
     /// The place of the row with this id, or none where the id isn't there.
     pub fn find(&self, id: u32) -> Option<u32>
-        ensures place { result ≡ place_of id (spans_of self.now) }
+        ensures place { result ≡ row_place id (spans_of self.now) }
         ensures attached { is_some result ≡ is_attached id (spans_of self.now) }
     {
         find(&self.rows, &self.by_id, id)

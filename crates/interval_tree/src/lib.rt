@@ -6,8 +6,6 @@ mod index;
 mod order;
 mod query;
 mod tally;
-#[cfg(test)]
-mod tests;
 mod walk;
 
 pub use index::SpanIndex;

@@ -1,6 +1,6 @@
 //! The order by start, and the greatest ends over it.
 
-ghost use Rattle.std.specs.Prelude.{◌≡◌, ◌≤◌, ◌<◌, ◌+◌, ◌-◌, false, map, length, slice_index, IfNone, IfSome, ℕ, ◌≢◌};
+ghost use Rattle.std.specs.Prelude.{◌≡◌, ◌≤◌, ◌<◌, ◌+◌, ◌-◌, ◌^◌, false, map, max, length, slice_index, IfNone, IfSome, ℕ, ◌≢◌};
 ghost use Rattle.std.specs.Prelude.{vec_capacity, vec_len};
 ghost use Rattle.edit_model.specs.Rows.{span_of};
 ghost use Rattle.span_table.specs.Table.{kept_span, span_at, spans_of, without_at};
@@ -84,7 +84,16 @@ fn turn(rows: &SpanRows, by_start: &mut [u32], tops: &mut [u64], at: usize)
 {
     let low = sink(rows, by_start, at);
     let high = rise(rows, by_start, low);
-    mend(rows, by_start, tops, low, at.max(high) + 1);
+    mend(rows, by_start, tops, low, window_end(at, high));
+}
+
+/// Where the window of the order ends in which entries may have changed, when one went from a place to another.
+fn window_end(from: usize, to: usize) -> usize
+    requires from { from < 2 ^ 63 }
+    requires to { to < 2 ^ 63 }
+    ensures { result ≡ max from to + 1 }
+{
+    from.max(to) + 1
 }
 
 /// Takes an entry down past those that start behind it, and gives its place then.

@@ -1,6 +1,6 @@
 //! The walk over the tree.
 
-ghost use Rattle.std.specs.Prelude.{◌≡◌, ◌≤◌, ◌<◌, ◌+◌, ◌++◌, [], ◌∷◌, length, take, drop, vec_capacity, if◌then◌else◌, OnOk, IsOk};
+ghost use Rattle.std.specs.Prelude.{◌≡◌, ◌≤◌, ◌<◌, ◌+◌, ◌++◌, [], ◌∷◌, length, take, drop, vec_capacity, if◌then◌else◌, OnOk, IsOk, nat_lt};
 ghost use Rattle.std.specs.List.{All};
 ghost use Rattle.edit_model.specs.Over.{least};
 ghost use Rattle.edit_model.specs.Replaced.{is_emptied};
@@ -63,7 +63,6 @@ pub fn visit<L: Ledger>(
         return Ok(());
     }
     let middle = by_start.len() / 2;
-    let last = query.end;
     if tops[middle] < query.bound {
         return Ok(());
     }
@@ -76,7 +75,7 @@ pub fn visit<L: Ledger>(
         out,
         steps,
     )?;
-    if row.start > last {
+    if starts_behind(&row, query.end) {
         return Ok(());
     }
     keep(&row, query, out)?;
@@ -88,6 +87,13 @@ pub fn visit<L: Ledger>(
         out,
         steps,
     )
+}
+
+/// Whether a row starts behind a place, and so each one does that comes after it in order by start.
+fn starts_behind(row: &SpanRow, place: u32) -> bool
+    ensures { result ≡ nat_lt place row.now.start }
+{
+    row.start > place
 }
 
 /// Pushes a row that answers a query.
@@ -152,7 +158,7 @@ pub fn least_emptied(
         removal,
         best,
     );
-    if row.start > removal.end {
+    if starts_behind(&row, removal.end) {
         return first;
     }
     let second = nearer(&row, place, removal, first);

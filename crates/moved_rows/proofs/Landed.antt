@@ -13,6 +13,7 @@ use Rattle.edit_model.specs.Replaced.{moved_span}
 use Rattle.edit_model.specs.WellFormed.{IsSpanOver}
 use Rattle.span_table.specs.Offsets.{bound, closed, ends_behind, pushed, starts_behind, IsClear}
 use Rattle.span_table.specs.Table.{HasRoomFor, IsClearOf, closed_span, pushed_span}
+use Rattle.span_table.proofs.Lists.{map_both}
 use Rattle.interval_tree.specs.Answers.{IsForward}
 use Rattle.moved_rows.specs.Moving.{IsSpanWithin, cleared, cleared_span, landed, landed_span}
 
@@ -78,10 +79,6 @@ landed_apart s e n units span order apart ordered =
     (landed_away s e n (ends_behind span.flags) span.id (end_kind (kind_of span.flags)) span.end units order (end_away s e span apart ordered))
 
 -- ---- all spans
-
-map_both : {X Y Z : Type 0} (f : Y → Z) (g : X → Y) (xs : List X) → map (λ x. f (g x)) xs ≡ map f (map g xs)
-map_both f g [] = refl
-map_both f g (x ∷ xs) = ap (λ rest. f (g x) ∷ rest) (map_both f g xs)
 
 pub all_clear : (s e : ℕ) (spans : List Span) → s ≤ e → All (IsClearOf s e) (map (cleared_span s e) spans)
 all_clear s e spans order =

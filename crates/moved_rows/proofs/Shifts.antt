@@ -1,14 +1,13 @@
 -- What is told of the rows that stood, by how they were moved.
-use Rattle.std.proofs.Common.{◌≡◌, ◌≢◌, ℕ, ◌<◌, ◌≤◌, ◌+◌, ◌-◌, ◌==◌, ◌&&◌, ◌||◌, suc, zero, Bool, true, false, cond, Option, Some, None, List, [], ◌∷◌, ◌++◌, map, length, get_or, ltb, lt-ltb, ltb-true, refl, sym, ap, ◌∙◌, arith, append_assoc, eq-eqb, inl, inr, append-nil}
+use Rattle.std.proofs.Common.{◌≡◌, ◌≢◌, ℕ, ◌<◌, ◌≤◌, ◌+◌, ◌-◌, ◌==◌, ◌&&◌, ◌||◌, suc, zero, Bool, true, false, cond, Option, Some, None, List, [], ◌∷◌, ◌++◌, map, length, get_or, ltb, lt-ltb, ltb-true, refl, sym, ap, ◌∙◌, arith, eq-eqb, inl, inr, append-nil}
 use Rattle.std.specs.List.{filter, filter_map, cons_option, range_with_len, slice_set}
 use Rattle.std.proofs.lemmas.Bool.{and_parts, cases_eq, ne_eqb, true≢false, false≢true}
-use Rattle.std.proofs.lemmas.List.{map-append, get_or-map, length-map, get_or_append_left, get_or-set_same, get_or-set_other}
+use Rattle.std.proofs.lemmas.List.{get_or-map, length-map, get_or_append_left, get_or-set_same, get_or-set_other}
 use Rattle.std.proofs.lemmas.Option.{slice_get-get_or, cond_some}
 use Rattle.edit_model.specs.State.{Span}
 use Rattle.edit_model.specs.Changed.{Shift, has_moved}
 use Rattle.span_table.specs.Table.{no_span, span_at, spans_of}
-use Rattle.moved_rows.specs.declared.moved.MovedRow.{MovedRow}
-use Rattle.moved_rows.specs.Moves.{ArePlaced, IsBegun, Moves, is_set, moved_of, moved_shifts, shift_at, shift_of, told_at, told_from}
+use Rattle.moved_rows.specs.Moves.{ArePlaced, IsBegun, Moves, is_set, moved_of, moved_shifts, shift_at, told_at, told_from}
 
 -- ---- lists by their places
 
@@ -161,22 +160,6 @@ told_past m i past = told_none_left (told_at m) i (length m.before - i) (omega a
 pub told_whole : (m : Moves) → told_from m 0 ≡ moved_of m
 unfolding told_from moved_of
 told_whole m = ap (λ n. filter_map (told_at m) (range_with_len 0 n)) (let e : length m.before - 0 ≡ length m.before = omega arith in e)
-
--- ---- what is written of it
-
--- a row that is told of is written behind the others
-told_written : (m : Moves) (i : ℕ) (xs : List Shift) (x : Shift) → i < length m.before → told_at m i ≡ Some x
-    → (xs ++ x ∷ []) ++ told_from m (i + 1) ≡ xs ++ told_from m i
-told_written m i xs x within is =
-    append_assoc xs (x ∷ []) (told_from m (i + 1))
-    ∙ ap (λ left. xs ++ left) (sym (told_next m i within ∙ ap (λ found. cons_option found (told_from m (i + 1))) is))
-
-pub told_gathered : (m : Moves) (i : ℕ) (old new : List MovedRow) (row : MovedRow) → i < length m.before → told_at m i ≡ Some (shift_of row)
-    → new ≡ old ++ row ∷ [] → map shift_of new ++ told_from m (i + 1) ≡ map shift_of old ++ told_from m i
-told_gathered m i old new row within is next =
-    ap (λ items. map shift_of items ++ told_from m (i + 1)) next
-    ∙ ap (λ items. items ++ told_from m (i + 1)) (map-append shift_of old (row ∷ []))
-    ∙ told_written m i (map shift_of old) (shift_of row) within is
 
 pub told_passed : (m : Moves) (i : ℕ) → i < length m.before → told_at m i ≡ None → told_from m (i + 1) ≡ told_from m i
 told_passed m i within is = sym (told_next m i within ∙ ap (λ found. cons_option found (told_from m (i + 1))) is)

@@ -342,69 +342,6 @@ impl MovedRows {
             place: 0,
         }
     }
-
-    /// The rows that are told of, in their order. `out` is cleared first, and empty where there is no memory.
-    pub fn list<L: Ledger>(
-        &self,
-        out: &mut Vec<MovedRow>,
-        steps: &mut Steps<L>,
-    ) -> Result<(), NoMemory>
-        ensures ok { OnOk result (map shift_of out.new.items ≡ moved_of self.now) }
-        ensures err { OnErr result (out.new.items ≡ []) }
-        ensures more { steps.old ≤ steps.new }
-        ensures ticks { steps.new ≤ steps.old + length self.now.before }
-        ensures room { length self.now.before ≤ vec_capacity out.old → IsOk result }
-        ensures capacity { vec_capacity out.old ≤ vec_capacity out.new }
-    {
-        out.clear();
-        match gather(self, out, steps) {
-            Ok(()) => Ok(()),
-            Err(NoMemory) => {
-                out.clear();
-                Err(NoMemory)
-            }
-        }
-    }
-}
-
-/// The rows that are told of, behind none.
-fn gather<L: Ledger>(
-    moved: &MovedRows,
-    out: &mut Vec<MovedRow>,
-    steps: &mut Steps<L>,
-) -> Result<(), NoMemory>
-    requires none { out.old.items ≡ [] }
-    ensures ok { OnOk result (map shift_of out.new.items ≡ moved_of moved.now) }
-    ensures more { steps.old ≤ steps.new }
-    ensures ticks { steps.new ≤ steps.old + length moved.now.before }
-    ensures room { length moved.now.before ≤ vec_capacity out.old → IsOk result }
-    ensures capacity { vec_capacity out.old ≤ vec_capacity out.new }
-{
-    for i in 0..moved.count() {
-        gather_row(moved, i, out, steps)?;
-    }
-    Ok(())
-}
-
-/// The row at a place, where it is told of.
-fn gather_row<L: Ledger>(
-    moved: &MovedRows,
-    i: u32,
-    out: &mut Vec<MovedRow>,
-    steps: &mut Steps<L>,
-) -> Result<(), NoMemory>
-    requires { i < length moved.now.before }
-    ensures ok { OnOk result (map shift_of out.new.items ++ told_from moved.now (i + 1)
-        ≡ map shift_of out.old.items ++ told_from moved.now i) }
-    ensures tick { steps.new ≡ steps.old + 1 }
-    ensures long { vec_len out.new ≤ vec_len out.old + 1 }
-    ensures room { vec_len out.old < vec_capacity out.old → IsOk result }
-    ensures capacity { vec_capacity out.old ≤ vec_capacity out.new }
-{
-    if let Some(row) = moved.at(i, steps) {
-        out.push(row)?;
-    }
-    Ok(())
 }
 
 /// The rows that are told of, in order of attachment.

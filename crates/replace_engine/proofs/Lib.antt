@@ -8,3 +8,4 @@ pub mod Counted
 pub mod Tables
 pub mod Passing
 pub mod MovingNone
+mod Within

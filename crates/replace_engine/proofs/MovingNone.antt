@@ -1,6 +1,7 @@
 -- A range that empties no span.
-use Rattle.std.proofs.Common.{◌≡◌, ℕ, ◌&&◌, Bool, true, false, leb, ltb, List, [], ◌∷◌, Option, is_some, refl, sym, ap, ◌∙◌, arith}
+use Rattle.std.proofs.Common.{◌≡◌, ℕ, ◌&&◌, Bool, true, false, eqb, leb, ltb, List, [], ◌∷◌, Option, is_some, refl, sym, ap, ◌∙◌, arith}
 use Rattle.std.specs.List.{AllByRecursion}
+use Rattle.std.proofs.lemmas.Bool.{and_parts, eqb-true}
 use Rattle.std.proofs.lemmas.Bool.Decides.{nat_tests}
 use Rattle.edit_model.specs.Flags.{is_point_mark, kind_of}
 use Rattle.edit_model.specs.State.{Span}
@@ -38,3 +39,7 @@ module _ (start end grown : ℕ) where
   unfolding AreSpared
   spared_none [] each = refl
   spared_none (span ∷ spans) each = rw each.0 (spared_none spans each.1)
+
+-- of a range from which no unit goes
+pub plain_start : (start end : ℕ) (rest : Bool) → (eqb start end && rest) ≡ true → start ≡ end
+plain_start start end rest plain = eqb-true start end (and_parts (eqb start end) rest plain).0

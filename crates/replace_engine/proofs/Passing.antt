@@ -10,7 +10,7 @@ use Rattle.edit_model.specs.Attached.{has_id, is_attached}
 use Rattle.edit_model.specs.WellFormed.{HasDistinctIds}
 use Rattle.edit_model.proofs.SpanLists.{all_fail}
 use Rattle.span_table.specs.declared.kept.KeptRow.{KeptRow}
-use Rattle.span_table.specs.Table.{Rows, no_span, place_of, seen, span_at, spans_of}
+use Rattle.span_table.specs.Table.{Rows, no_span, row_place, seen, span_at, spans_of}
 use Rattle.interval_tree.specs.Ids.{HaveDistinctIds, ids_of, same_number}
 
 module _ (id : ℕ) (test : Span → Bool) where
@@ -33,7 +33,7 @@ module _ (id : ℕ) (test : Span → Bool) where
       rw (before 0 (omega arith)) (first_passes spans at distinct.1 (omega arith) is (λ k h. before (suc k) (omega arith)))
 
   -- some span of the id passes exactly where the one at its place does
-  pub found_passes : (spans : List Span) (at : ℕ) → HasDistinctIds spans → place_of id spans ≡ Some at
+  pub found_passes : (spans : List Span) (at : ℕ) → HasDistinctIds spans → row_place id spans ≡ Some at
       → list_any (λ other. has_id id other && test other) spans ≡ test (span_at spans at)
   found_passes spans at distinct found =
       let is = position-Some (has_id id) spans at no_span found in

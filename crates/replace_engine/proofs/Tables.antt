@@ -13,7 +13,7 @@ use Rattle.edit_model.specs.State.{Span, place}
 use Rattle.edit_model.specs.Brought.{coming_spans, newcomers, placed_span}
 use Rattle.edit_model.specs.Replaced.{spliced, stayed_spans}
 use Rattle.edit_model.specs.Verdicts.{first_of, length_after}
-use Rattle.replace_engine.specs.Lines.{exchange_lines}
+use Rattle.replace_engine.specs.EditVerdicts.{exchange_lines}
 
 -- signed numbers without sign are equal where they are
 same_places : (s e : ℕ) → int_eq (pos s) (pos e) ≡ eqb s e

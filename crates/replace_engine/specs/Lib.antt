@@ -1,7 +1,8 @@
 pub mod Seen
 pub mod Rows
 pub mod Arrivals
-pub mod Lines
+pub mod EditVerdicts
 pub mod Moved
 pub mod Work
 pub mod Exchange
+pub mod Places

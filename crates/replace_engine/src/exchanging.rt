@@ -1,6 +1,6 @@
 //! What a replacement makes of the spans.
 
-ghost use Rattle.std.specs.Prelude.{◌≡◌, ◌≤◌, ◌+◌, ◌-◌, ◌*◌, ◌++◌, length, vec_capacity};
+ghost use Rattle.std.specs.Prelude.{◌≡◌, ◌≤◌, ◌+◌, ◌-◌, ◌*◌, ◌++◌, true, length, vec_capacity};
 ghost use Rattle.edit_base.specs.declared.bounds.TheConstants.Limits.{SPANS, TEXT};
 ghost use Rattle.edit_model.specs.Changed.{replaced_effect};
 ghost use Rattle.edit_model.specs.Replaced.{spliced_length};
@@ -9,6 +9,7 @@ ghost use Rattle.text_cut.specs.Halves.{joined};
 ghost use Rattle.span_table.specs.Table.{spans_of};
 ghost use Rattle.span_changes.specs.Changes.{effect_of};
 ghost use Rattle.replace_engine.specs.Exchange.{comes, stays};
+ghost use Rattle.replace_engine.specs.Moved.{is_plain};
 ghost use Rattle.replace_engine.specs.Rows.{whole};
 ghost use Rattle.span_changes.specs.Rows.{HasRoom, IsTold, KeepsRoom, state_with};
 
@@ -63,6 +64,8 @@ pub fn exchange_spans<L: Ledger>(
         ≤ length change.new.moved.rows.kept + change.new.moved.rows.spare }
     ensures touched { vec_capacity touched.old ≤ vec_capacity touched.new }
     ensures lists { KeepsRoom change.old change.new }
+    ensures idle { is_plain asked.now.start asked.now.end (length (joined asked.now.text))
+        (spans_of change.old.moved.rows) ≡ true → steps.new ≡ steps.old }
     ensures more { steps.old ≤ steps.new }
     ensures ticks { steps.new ≤ steps.old + 6 * length change.old.moved.rows.kept }
 {

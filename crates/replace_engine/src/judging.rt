@@ -18,13 +18,16 @@ ghost use Rattle.edit_base.specs.declared.bounds.TheConstants.Limits.{SPANS};
 ghost use Rattle.text_cut.specs.Halves.{joined};
 ghost use Rattle.text_cut.specs.Coming.{all_coming};
 ghost use Rattle.replace_engine.specs.Arrivals.{stayed};
-ghost use Rattle.replace_engine.specs.Lines.{kind_lines, place_lines, replacement_lines, exchange_lines, span_lines};
+ghost use Rattle.replace_engine.specs.EditVerdicts.{kind_lines, place_lines, replacement_lines, exchange_lines, span_lines};
 
 use crate::arriving::{count_coming, count_kept};
 use edit_base::{Incoming, Limits, NewSpan, Refusal, SpanRow, Verdict, What};
 use interval_tree::SpanIndex;
-use span_changes::{is_attached, place_of};
-use span_flags::{flags_of, is_paragraph, is_point_mark, is_watch, kind_of_word};
+use span_changes::is_attached;
+use span_flags::{
+    flags_of, goes_below, goes_beyond, is_paragraph, is_point_mark, is_watch, kind_of_word,
+    place_of,
+};
 use text_cut::{Coming, Cut, Halves, coming_with, is_boundary};
 
 /// A span as it is asked for, its places not looked at yet.
@@ -90,14 +93,13 @@ fn judge_bounds(
     requires spans { length rows.now.kept ≤ Limits.SPANS }
     ensures { result ≡ first_of (replacement_lines (state_with (joined text.now) rows.now) start end incoming.now) }
 {
-    let len = i64::from(text.len());
     if end < start {
         return Verdict::Refused(Refusal::Order);
     }
-    if i64::from(start) > len || i64::from(end) > len {
+    if goes_beyond(text.len(), start, end) {
         return Verdict::Refused(Refusal::Beyond);
     }
-    if start < 0 || end < 0 {
+    if goes_below(start, end) {
         return Verdict::Refused(Refusal::Below);
     }
     judge_exchange(text, rows, place_of(start), place_of(end), incoming)
@@ -179,14 +181,13 @@ fn judge_places(text: &Halves, rows: &SpanIndex, asked: &AskedSpan) -> Verdict
     ensures starts { result ≡ Done → pos 0 ≤ℤ asked.now.start }
     ensures ends { result ≡ Done → pos 0 ≤ℤ asked.now.end }
 {
-    let len = i64::from(text.len());
     if asked.end < asked.start {
         return Verdict::Refused(Refusal::Order);
     }
-    if i64::from(asked.start) > len || i64::from(asked.end) > len {
+    if goes_beyond(text.len(), asked.start, asked.end) {
         return Verdict::Refused(Refusal::Beyond);
     }
-    if asked.start < 0 || asked.end < 0 {
+    if goes_below(asked.start, asked.end) {
         return Verdict::Refused(Refusal::Below);
     }
     judge_kind(text, rows, asked)
@@ -246,13 +247,13 @@ fn lacks_slot(rows: &SpanIndex, id: u32, what: What, slots: u8) -> bool
     ensures { (units : List ℕ) → result ≡ lacks_slot (state_with units rows.now) slots id what }
 {
     match what {
-        What::Watch(slot) => slot >= slots || is_seat_taken(rows, id, slot),
+        What::Watch(slot) => slot >= slots || is_slot_taken(rows, id, slot),
         _ => false,
     }
 }
 
 /// Whether a span of another id watches for this slot.
-fn is_seat_taken(rows: &SpanIndex, id: u32, slot: u8) -> bool
+fn is_slot_taken(rows: &SpanIndex, id: u32, slot: u8) -> bool
     ensures { result ≡ list_any (λ span. not (has_id id span) && watches slot span.what) (spans_of rows.now) }
 {
     for i in 0..rows.rows().count() {
@@ -263,6 +264,7 @@ fn is_seat_taken(rows: &SpanIndex, id: u32, slot: u8) -> bool
     false
 }
 
+/// Whether the span has another id and is the seat of the watcher in this slot.
 fn is_other_seat(row: &SpanRow, id: u32, slot: u8) -> bool
     ensures { result ≡ (not (has_id id (span_of row.now)) && watches slot row.now.what) }
 {

@@ -2,16 +2,10 @@
 #![tactic(auto)]
 
 mod arriving;
-#[cfg(test)]
-mod change_tests;
 mod exchanging;
 mod followers;
 mod judging;
 mod moving;
-#[cfg(test)]
-mod selection_tests;
-#[cfg(test)]
-mod tests;
 mod text;
 
 pub use edit_base::{Incoming, NewSpan, Pick};

@@ -48,6 +48,8 @@ pub fn drop_emptied<L: Ledger>(
     ensures fewer { length moved.new.rows.kept ≤ length moved.old.rows.kept }
     ensures capacity { vec_capacity removed.old ≤ vec_capacity removed.new }
     ensures rest_capacity { vec_capacity rest.old ≤ vec_capacity rest.new }
+    ensures none_cut { start ≡ end → moved.new ≡ moved.old }
+    ensures idle { start ≡ end → steps.new ≡ steps.old }
     ensures more { steps.old ≤ steps.new }
     ensures ticks { steps.new ≤ steps.old + 5 * length moved.old.rows.kept }
 {
@@ -142,14 +144,16 @@ pub fn touch<L: Ledger>(
     ensures rows { All (IsAtOrder (spans_of moved.now.rows)) touched.new.items }
     ensures rest { AreLeft start end len (spans_of moved.now.rows) touched.new.items }
     ensures capacity { vec_capacity touched.old ≤ vec_capacity touched.new }
+    ensures idle { is_plain start end len (spans_of moved.now.rows) ≡ true → steps.new ≡ steps.old }
     ensures more { steps.old ≤ steps.new }
     ensures ticks { steps.new ≤ steps.old + length moved.now.rows.kept }
 {
     touched.clear();
-    if !is_plain(moved, start, end, len) {
-        // There is room, so this succeeds.
-        let _ = moved.rows().touching(start, end, touched, steps);
+    if is_plain(moved, start, end, len) {
+        return;
     }
+    // There is room, so this succeeds.
+    let _ = moved.rows().touching(start, end, touched, steps);
 }
 
 /// Every end goes where the end table takes it. The gap stands at the end of the cut, and no emptied span is left.

@@ -1,12 +1,11 @@
 //! The text with its spans.
 
-ghost use Rattle.std.specs.Prelude.{ℕ, pos, ◌≤ℤ◌, ◌≡◌, ◌≢◌, ◌≤◌, ◌<◌, ◌+◌, ◌-◌, ◌*◌, ◌++◌, [], true, false, length, slice_index, slice_get, Some, is_some, IfOk, OnOk, OnErr, IsOk};
+ghost use Rattle.std.specs.Prelude.{ℕ, pos, ◌≤ℤ◌, ◌≡◌, ◌≢◌, ◌≤◌, ◌<◌, ◌+◌, ◌-◌, ◌*◌, ◌++◌, [], true, false, length, slice_index, slice_get, Some, is_some, IfOk, IfSome, OnOk, OnErr, IsOk};
 ghost use Rattle.std.specs.List.{All};
 ghost use Rattle.edit_base.specs.declared.verdicts.Refusal.TheVariants.{SpansFull};
 ghost use Rattle.edit_base.specs.declared.verdicts.Verdict.TheVariants.{Done, Refused};
 ghost use Rattle.edit_model.specs.declared.steps.Step.TheVariants.{Replace, Set, Remove, Select, Deselect, Drop, Mark};
 ghost use Rattle.edit_model.specs.Selection.{has_region, has_selection, region, selection};
-ghost use Rattle.span_changes.specs.Gone.{step_of};
 ghost use Rattle.edit_model.specs.State.{empty_state, place, text_end};
 ghost use Rattle.edit_model.specs.Attached.{is_attached};
 ghost use Rattle.edit_model.specs.WellFormed.{IsWellFormed, IsSeated};
@@ -23,8 +22,10 @@ ghost use Rattle.edit_model.specs.Rows.{spans_in};
 ghost use Rattle.span_table.specs.Table.{spans_of};
 ghost use Rattle.text_cut.specs.Halves.{joined};
 ghost use Rattle.replace_engine.specs.Rows.{appended_by_select, appended_by_set};
-ghost use Rattle.replace_engine.specs.Lines.{set_of};
-ghost use Rattle.replace_engine.specs.Work.{replaced_within};
+ghost use Rattle.replace_engine.specs.EditVerdicts.{set_of};
+ghost use Rattle.replace_engine.specs.Moved.{is_plain};
+ghost use Rattle.replace_engine.specs.Places.{LiesIn};
+ghost use Rattle.replace_engine.specs.Work.{inserted_in, replaced_within};
 ghost use Rattle.std.specs.Int.{abs_diff};
 
 use crate::arriving::count_spans_then;
@@ -35,9 +36,10 @@ use edit_model::Step;
 use interval_tree::SpanIndex;
 use moved_rows::MovedRows;
 use span_changes::{
-    Change, Gone, judge_deselect, judge_drop, judge_mark, judge_select, mark_row, place_of,
-    region_of, remove_row, select_rows, selection_of, set_row, take_out,
+    Change, drop_rows, judge_deselect, judge_drop, judge_mark, judge_select, mark_row, region_of,
+    remove_ends, remove_row, select_rows, selection_of, set_row,
 };
+use span_flags::place_of;
 use std::alloc::Global;
 use std::marker::Model;
 use std::sync::ledger::Ledger;
@@ -144,19 +146,22 @@ impl SpannedText {
         (text.left, text.right)
     }
 
-    /// Where the selection's start and end stand, either of which may be the lesser; none where it isn't attached.
+    /// Where the selection's start and end stand in the text, either of which may be the lesser; none where it isn't
+    /// attached.
     pub fn selection(&self) -> Option<(u32, u32)>
         ensures selection { result ≡ selection self.now.state.spans }
         ensures attached { is_some result ≡ has_selection self.now.state.spans }
+        ensures within { IfSome result (LiesIn self.now.state.units) }
         ensures well_formed { IsWellFormed self.now.state }
     {
         selection_of(self.change.moved.rows())
     }
 
-    /// Where the composing region stands; none where it isn't attached.
+    /// Where the composing region stands in the text; none where it isn't attached.
     pub fn composing(&self) -> Option<(u32, u32)>
         ensures region { result ≡ region self.now.state.spans }
         ensures attached { is_some result ≡ has_region self.now.state.spans }
+        ensures within { IfSome result (LiesIn self.now.state.units) }
         ensures well_formed { IsWellFormed self.now.state }
     {
         region_of(self.change.moved.rows())
@@ -297,6 +302,14 @@ impl SpannedText {
             → IfOk result (λ verdict. verdict ≡ Done
             → steps.new ≤ steps.old + replaced_within self.old.gap end incoming.now (length self.old.state.spans)) }
 
+        // An insertion reads no span where the gap alone moves all ends, and so takes no step at the gap but one for each
+        // unit that it writes. Where the verdict isn't done no step is taken, nor in want of memory.
+        ensures insertion { IfOk result (λ verdict. verdict ≡ Done
+            → is_plain (place start) (place end) (length self.old.state.units) self.old.state.spans ≡ true
+            → steps.new ≡ steps.old + inserted_in self.old.gap end incoming.now) }
+        ensures idle { IfOk result (λ verdict. verdict ≢ Done → steps.new ≡ steps.old) }
+        ensures idle_err { OnErr result (steps.new ≡ steps.old) }
+
         ensures well_formed { IsWellFormed self.new.state }
         ensures seated { (slots : ℕ) → IsSeated slots self.old.state.spans → IsSeated slots self.new.state.spans }
     {
@@ -348,6 +361,9 @@ impl SpannedText {
         ensures gap { OnOk result (self.new.gap ≡ start + length incoming.now.units) }
         ensures ticks { OnOk result (steps.new ≤ steps.old + abs_diff self.old.gap end + length incoming.now.units
             + 6 * length self.old.state.spans) }
+        ensures plain { OnOk result (is_plain start end (length self.old.state.units) self.old.state.spans ≡ true
+            → steps.new ≡ steps.old + abs_diff self.old.gap end + length incoming.now.units) }
+        ensures idle { OnErr result (steps.new ≡ steps.old) }
         ensures room { length incoming.now.units ≤ self.old.spare_units → coming_spans incoming.now ≡ [] → IsOk result }
         ensures spare_units { OnOk result (self.old.spare_units ≤ self.new.spare_units + length incoming.now.units) }
         ensures spare_spans { OnOk result (self.old.spare_spans
@@ -620,7 +636,7 @@ impl SpannedText {
         let Verdict::Done = verdict else {
             return verdict;
         };
-        self.take_out(Gone::Selection);
+        self.remove_selection();
         verdict
     }
 
@@ -630,6 +646,20 @@ impl SpannedText {
         ensures well_formed { IsWellFormed self.now.state }
     {
         judge_deselect(self.change.moved.rows())
+    }
+
+    /// Removes both ends of the selection, and the change says so.
+    #[tactic(auto, unfolding(edit_model::specs::Changed::stepped, edit_model::specs::Changed::change_of))]
+    fn remove_selection(&mut self)
+        ensures state { self.new.state ≡ stepped self.old.state Deselect }
+        ensures effect { self.new.effect ≡ change_of self.old.state Deselect }
+        ensures gap { self.new.gap ≡ self.old.gap }
+        ensures spare_units { self.old.spare_units ≤ self.new.spare_units }
+        ensures spare_spans { self.old.spare_spans ≤ self.new.spare_spans }
+        ensures well_formed { IsWellFormed self.new.state }
+        ensures seated { (slots : ℕ) → IsSeated slots self.old.state.spans → IsSeated slots self.new.state.spans }
+    {
+        remove_ends(&mut self.change);
     }
 
     /// The composing region goes, and every span whose flags word says that it is part of a composing text, where the
@@ -650,7 +680,7 @@ impl SpannedText {
         let Verdict::Done = verdict else {
             return Ok(verdict);
         };
-        self.take_out(Gone::Composing);
+        self.drop_spans();
         Ok(verdict)
     }
 
@@ -662,18 +692,18 @@ impl SpannedText {
         judge_drop(self.change.moved.rows())
     }
 
-    /// Removes the spans that go together, and the change says so.
+    /// Removes the region and the other spans that a drop takes, and the change says so.
     #[tactic(auto, unfolding(edit_model::specs::Changed::stepped, edit_model::specs::Changed::change_of))]
-    fn take_out(&mut self, gone: Gone)
-        ensures state { self.new.state ≡ stepped self.old.state (step_of gone) }
-        ensures effect { self.new.effect ≡ change_of self.old.state (step_of gone) }
+    fn drop_spans(&mut self)
+        ensures state { self.new.state ≡ stepped self.old.state Drop }
+        ensures effect { self.new.effect ≡ change_of self.old.state Drop }
         ensures gap { self.new.gap ≡ self.old.gap }
         ensures spare_units { self.old.spare_units ≤ self.new.spare_units }
         ensures spare_spans { self.old.spare_spans ≤ self.new.spare_spans }
         ensures well_formed { IsWellFormed self.new.state }
         ensures seated { (slots : ℕ) → IsSeated slots self.old.state.spans → IsSeated slots self.new.state.spans }
     {
-        take_out(gone, &mut self.touched, &mut self.change);
+        drop_rows(&mut self.touched, &mut self.change);
     }
 
     /// Makes these units the composing region, behind all other spans, where the verdict is done; else nothing changes.

@@ -1,19 +1,18 @@
 -- Lines that are read alone.
 use Rattle.std.proofs.Common.{◌≡◌, ℕ, ◌+◌, Bool, true, false, List, [], ◌∷◌, Option, refl, sym, ap, ◌∙◌, add-zero}
-use Rattle.edit_model.specs.declared.commands.Command.{Command}
-use Rattle.edit_model.specs.declared.faults.TraceFault.{TraceFault}
-use Rattle.edit_model.specs.Lines.{open_line}
+use Rattle.trace_model.specs.declared.commands.Command.{Command}
+use Rattle.trace_model.specs.declared.faults.TraceFault.{TraceFault}
+use Rattle.trace_model.specs.TraceLines.{open_line}
 use Rattle.edit_model.specs.Minds.{Mind}
-use Rattle.edit_model.specs.Output.{Line, blank, command, faulty, line_of, line_check, check_lines, checked, cut_off, too_long, Played, stopped, bytes_of}
+use Rattle.trace_model.specs.Output.{LineKind, blank, command, faulty, line_kind, line_check, check_lines, checked, cut_off, too_long, Played, stopped, bytes_of}
 use Rattle.replay_io.specs.Outside.{with_more}
 use Rattle.replay_cli.specs.declared.status.Status.{Status}
 use Rattle.replay_cli.specs.declared.status.Status.TheVariants as status
-use Rattle.replay_cli.specs.Lines.{lines_in}
-use Rattle.replay_cli.specs.Steps.{close_check}
-use Rattle.replay_cli.specs.Runs.{Writes, Keeps}
+use Rattle.replay_cli.specs.Steps.{lines_in, close_check}
+use Rattle.replay_cli.specs.Runs.{Ends}
 use Rattle.replay_cli.proofs.Known.{with_more-none}
 
-pub check-line : (minds : List Mind) (close : ℕ → ℕ → Played) (number count : ℕ) (line : List ℕ) (lines : List (List ℕ)) (it : Line) → it ≡ line_of line
+pub check-line : (minds : List Mind) (close : ℕ → ℕ → Played) (number count : ℕ) (line : List ℕ) (lines : List (List ℕ)) (it : LineKind) → it ≡ line_kind line
     → check_lines minds close number count (line ∷ lines) ≡ line_check minds number count it (λ next. check_lines minds close (number + 1) next lines)
 unfolding check_lines
 check-line minds close number count line lines it is =
@@ -23,23 +22,23 @@ check-nothing : (minds : List Mind) (close : ℕ → ℕ → Played) (number cou
 unfolding check_lines
 check-nothing minds close number count = refl
 
-pub blank-none : (number : ℕ) (line : List ℕ) → blank ≡ line_of line → (minds : List Mind) (close : ℕ → ℕ → Played) (count : ℕ) (lines : List (List ℕ))
+pub blank-none : (number : ℕ) (line : List ℕ) → blank ≡ line_kind line → (minds : List Mind) (close : ℕ → ℕ → Played) (count : ℕ) (lines : List (List ℕ))
     → check_lines minds close number count (line ∷ lines) ≡ check_lines minds close (number + 1) (count + 0) lines
 blank-none number line is minds close count lines = check-line minds close number count line lines blank is
     ∙ ap (λ n. check_lines minds close (number + 1) n lines) (sym (add-zero count))
 
-pub command-one : (number : ℕ) (line : List ℕ) (asked : Command) → command asked ≡ line_of line
+pub command-one : (number : ℕ) (line : List ℕ) (asked : Command) → command asked ≡ line_kind line
     → (minds : List Mind) (close : ℕ → ℕ → Played) (count : ℕ) (lines : List (List ℕ))
     → check_lines minds close number count (line ∷ lines) ≡ check_lines minds close (number + 1) (count + 1) lines
 command-one number line asked is minds close count lines = check-line minds close number count line lines (command asked) is
 
-pub faulty-ends : (number : ℕ) (line : List ℕ) (kind : TraceFault) → faulty kind ≡ line_of line
+pub faulty-ends : (number : ℕ) (line : List ℕ) (kind : TraceFault) → faulty kind ≡ line_kind line
     → (minds : List Mind) (close : ℕ → ℕ → Played) (count : ℕ) (lines : List (List ℕ)) (known : Option (List ℕ))
-    → Writes (check_lines minds close number count (line ∷ lines)) (status.TraceFault number kind) known known
-    × Keeps (check_lines minds close number count (line ∷ lines)) (status.TraceFault number kind) minds
+    → Ends (check_lines minds close number count (line ∷ lines)) (status.TraceFault number kind) known known minds
 faulty-ends number line kind is minds close count lines known =
     let e = check-line minds close number count line lines (faulty kind) is in (
-      (ap (λ played. played.ending) e, with_more-none known ∙ ap (λ played. with_more known (bytes_of played)) (sym e)),
+      ap (λ played. played.ending) e,
+      with_more-none known ∙ ap (λ played. with_more known (bytes_of played)) (sym e),
       ap (λ played. played.minds) (sym e),
     )
 
@@ -75,8 +74,6 @@ pub check-whole : (minds : List Mind) (whole : Played) (is_cut : Bool) (trace re
 check-whole minds whole is_cut trace rest number count cut none is =
     check-end minds whole (close_check minds is_cut trace) number count (lines_in is_cut rest) none is ∙ whole-close minds is_cut trace number count cut
 
-pub writes-same : (whole left : Played) (answer : Status) (old new : Option (List ℕ)) → whole ≡ left → Writes left answer old new → Writes whole answer old new
-writes-same whole left answer old new is writes = let e = sym is in rw e at writes
-
-pub keeps-same : (whole left : Played) (answer : Status) (minds : List Mind) → whole ≡ left → Keeps left answer minds → Keeps whole answer minds
-keeps-same whole left answer minds is keeps = let e = sym is in rw e at keeps
+pub ends-same : (whole left : Played) (answer : Status) (old new : Option (List ℕ)) (minds : List Mind) → whole ≡ left → Ends left answer old new minds
+    → Ends whole answer old new minds
+ends-same whole left answer old new minds is ends = let e = sym is in rw e at ends

@@ -7,8 +7,8 @@ use Rattle.std.proofs.lemmas.List.{drop-drop}
 use Rattle.std.proofs.lemmas.List.Quantifiers.{position-Some}
 use Rattle.std.proofs.lemmas.List.Sums.{prefix_len_passes}
 use Rattle.std.proofs.lemmas.Bool.Decides.{nat_tests}
-use Rattle.replay_cli.specs.Lines.{lines_in}
-use Rattle.edit_model.specs.Lines.{onto_first, trace_lines, onto_ended, ended_lines, open_line}
+use Rattle.replay_cli.specs.Steps.{lines_in}
+use Rattle.trace_model.specs.TraceLines.{onto_first, trace_lines, onto_ended, ended_lines, open_line}
 
 -- the byte that ends a line
 abbrev is_end : ℕ → Bool

@@ -5,26 +5,25 @@ use Rattle.std.proofs.lemmas.List.{append-nil}
 use Rattle.std.proofs.Math.Seq.{take-append-add}
 use Rattle.edit_model.specs.Machine.{Setup}
 use Rattle.edit_model.specs.Minds.{Mind}
-use Rattle.edit_model.specs.declared.commands.Command.{Command}
-use Rattle.edit_model.specs.Lines.{is_blank, open_line}
-use Rattle.edit_model.specs.Reading.{read_command, IsFitting}
-use Rattle.edit_model.specs.declared.faults.TraceFault.{TraceFault}
-use Rattle.edit_model.specs.Output.{Line, blank, command, faulty, as_line, line_of, line_run, run_lines, Played, Session, Ending, finished, faulty_line, too_long, stopped, ended, cut_off, behind, bytes_of, command_bytes, session_behind}
-use Rattle.edit_model.proofs.Readings.{fits-read_command}
+use Rattle.trace_model.specs.declared.commands.Command.{Command}
+use Rattle.trace_model.specs.TraceLines.{is_blank, open_line}
+use Rattle.trace_model.specs.Reading.{read_command, IsFitting}
+use Rattle.trace_model.specs.declared.faults.TraceFault.{TraceFault}
+use Rattle.trace_model.specs.Output.{LineKind, blank, command, faulty, as_kind, line_kind, line_run, run_lines, Played, Session, Ending, finished, faulty_line, too_long, stopped, ended, cut_off, behind, bytes_of, command_bytes, session_behind}
+use Rattle.trace_model.proofs.Readings.{fits-read_command}
 use Rattle.replay_io.specs.Outside.{with_more}
 use Rattle.replay_cli.specs.declared.player.LineOutcome.{LineOutcome}
 use Rattle.replay_cli.specs.declared.player.LineOutcome.TheVariants.{Next, Stop}
 use Rattle.replay_cli.specs.declared.status.Status.{Status}
 use Rattle.replay_cli.specs.declared.status.Status.TheVariants as status
-use Rattle.replay_cli.specs.Runs.{Writes, Keeps}
-use Rattle.replay_cli.specs.Lines.{lines_in}
-use Rattle.replay_cli.specs.Steps.{close_of, behind_all, Reached, LineGives, CommandGives}
+use Rattle.replay_cli.specs.Runs.{EndsAt, Ends}
+use Rattle.replay_cli.specs.Steps.{lines_in, close_of, behind_all, Reached, LineGives, CommandGives}
 use Rattle.replay_cli.proofs.Known.{with_more-none, with_more-twice, concat-append, take-before}
 
 -- ---- one line
 
-pub run-line : (r : Setup) (close : ℕ → Session → Played) (number : ℕ) (session : Session) (line : List ℕ) (lines : List (List ℕ)) (it : Line)
-    → it ≡ line_of line
+pub run-line : (r : Setup) (close : ℕ → Session → Played) (number : ℕ) (session : Session) (line : List ℕ) (lines : List (List ℕ)) (it : LineKind)
+    → it ≡ line_kind line
     → run_lines r close number session (line ∷ lines) ≡ line_run r number session it (λ next. run_lines r close (number + 1) next lines)
 unfolding run_lines
 run-line r close number session line lines it is = ap (λ l. line_run r number session l (λ next. run_lines r close (number + 1) next lines))
@@ -41,18 +40,18 @@ reached-itself whole left known is = record { pieces = []; is = is; written = wi
 
 -- ---- a command that was read
 
-fitting : (asked : Command) (found : Result Command TraceFault) → IfOk found IsFitting → command asked ≡ as_line found → IsFitting asked
+fitting : (asked : Command) (found : Result Command TraceFault) → IfOk found IsFitting → command asked ≡ as_kind found → IsFitting asked
 fitting asked (Err it) fits is = absurd (cc)
 fitting asked (Ok other) fits is = let e : asked ≡ other = cc in rw e fits
 
 fitting_unless_blank : (asked : Command) (test : Bool) (found : Result Command TraceFault) → IfOk found IsFitting
-    → command asked ≡ cond test blank (as_line found) → IsFitting asked
+    → command asked ≡ cond test blank (as_kind found) → IsFitting asked
 fitting_unless_blank asked true found fits is = absurd (cc)
 fitting_unless_blank asked false found fits is = fitting asked found fits is
 
-pub fits-line_of : (asked : Command) (line : List ℕ) → command asked ≡ line_of line → IsFitting asked
-unfolding line_of
-fits-line_of asked line is = fitting_unless_blank asked (is_blank line) (read_command line) (fits-read_command line) is
+pub fits-line_kind : (asked : Command) (line : List ℕ) → command asked ≡ line_kind line → IsFitting asked
+unfolding line_kind
+fits-line_kind asked line is = fitting_unless_blank asked (is_blank line) (read_command line) (fits-read_command line) is
 
 -- ---- what was written before
 
@@ -96,35 +95,24 @@ some_commands whole left old now new count reached writes =
 same_ending : (whole left : Played) (old now : Option (List ℕ)) (ending : Ending) → Reached whole left old now → left.ending ≡ ending → whole.ending ≡ ending
 same_ending whole left old now ending reached is = ap (λ played. played.ending) reached.is ∙ is
 
-pub writes_behind : (whole left : Played) (answer : Status) (old now new : Option (List ℕ)) → Reached whole left old now → Writes left answer now new
-    → Writes whole answer old new
-writes_behind whole left status.Done old now new reached writes =
-    (same_ending whole left old now finished reached writes.0, all_written whole left old now new reached writes.1)
-writes_behind whole left status.Usage old now new reached writes = writes
-writes_behind whole left (status.TraceFault line kind) old now new reached writes =
-    (same_ending whole left old now (faulty_line line kind) reached writes.0, all_written whole left old now new reached writes.1)
-writes_behind whole left (status.SettingsFault kind) old now new reached writes = writes
-writes_behind whole left status.ReadFault old now new reached writes = writes
-writes_behind whole left status.WriteFault old now new reached writes = some_written whole left old now new writes.0 reached writes.1
-writes_behind whole left status.NoMemory old now new reached writes = some_commands whole left old now new writes.0 reached writes.1
-writes_behind whole left status.TraceTooLong old now new reached writes =
-    (same_ending whole left old now too_long reached writes.0, all_written whole left old now new reached writes.1)
+all_behind : (whole left : Played) (ending : Ending) (old now new : Option (List ℕ)) (minds : List Mind) → Reached whole left old now
+    → EndsAt ending left now new minds → EndsAt ending whole old new minds
+all_behind whole left ending old now new minds reached ends = (
+  same_ending whole left old now ending reached ends.0,
+  all_written whole left old now new reached ends.1,
+  ends.2 ∙ ap (λ played. played.minds) (sym reached.is),
+)
 
--- what the watchers keep at the end of the rest is what they keep at the end of the whole
-pub keeps_behind : (whole left : Played) (answer : Status) (old now : Option (List ℕ)) (minds : List Mind) → Reached whole left old now
-    → Keeps left answer minds → Keeps whole answer minds
-keeps_behind whole left answer old now minds reached keeps =
-    let same : left.minds ≡ whole.minds = sym (ap (λ played. played.minds) reached.is) in keeps_same left whole answer minds same keeps
-  where
-    keeps_same : (some other : Played) (answer : Status) (minds : List Mind) → some.minds ≡ other.minds → Keeps some answer minds → Keeps other answer minds
-    keeps_same some other status.Done minds same keeps = keeps ∙ same
-    keeps_same some other status.Usage minds same keeps = tt
-    keeps_same some other (status.TraceFault line kind) minds same keeps = keeps ∙ same
-    keeps_same some other (status.SettingsFault kind) minds same keeps = tt
-    keeps_same some other status.ReadFault minds same keeps = tt
-    keeps_same some other status.WriteFault minds same keeps = tt
-    keeps_same some other status.NoMemory minds same keeps = tt
-    keeps_same some other status.TraceTooLong minds same keeps = keeps ∙ same
+-- the rest of a run ends as the whole run does
+pub ends_behind : (whole left : Played) (answer : Status) (old now new : Option (List ℕ)) (minds : List Mind) → Reached whole left old now
+    → Ends left answer now new minds → Ends whole answer old new minds
+ends_behind whole left status.Done old now new minds reached ends = all_behind whole left finished old now new minds reached ends
+ends_behind whole left (status.TraceFault line kind) old now new minds reached ends =
+    all_behind whole left (faulty_line line kind) old now new minds reached ends
+ends_behind whole left status.TraceTooLong old now new minds reached ends = all_behind whole left too_long old now new minds reached ends
+ends_behind whole left status.WriteFault old now new minds reached ends = some_written whole left old now new ends.0 reached ends.1
+ends_behind whole left status.NoMemory old now new minds reached ends = some_commands whole left old now new ends.0 reached ends.1
+ends_behind whole left answer old now new minds reached ends = absurd ends
 
 -- the runs join
 pub reached-twice : (whole left last : Played) (old now new : Option (List ℕ)) → Reached whole left old now → Reached left last now new
@@ -145,7 +133,7 @@ reached-twice whole left last old now new first second = record {
 
 -- the run behind a command
 pub command-goes : (r : Setup) (number : ℕ) (session : Session) (line : List ℕ) (asked : Command) (after : Session) (end : LineOutcome)
-    (old new : Option (List ℕ)) → command asked ≡ line_of line
+    (old new : Option (List ℕ)) → command asked ≡ line_kind line
     → CommandGives (command_bytes r number session asked) (session_behind r session asked) after end old new
     → LineGives r number session line after end old new
 command-goes r number session line asked after Next old new is gives = λ close lines. record {
@@ -154,38 +142,31 @@ command-goes r number session line asked after Next old new is gives = λ close 
       ∙ ap (λ next. behind (command_bytes r number session asked) (run_lines r close (number + 1) next lines)) (sym gives.0);
   written = gives.1 ∙ ap (with_more old) (sym (append-nil (command_bytes r number session asked)));
 }
-command-goes r number session line asked after (Stop status.Done) old new is gives = absurd gives
-command-goes r number session line asked after (Stop status.Usage) old new is gives = absurd gives
-command-goes r number session line asked after (Stop (status.TraceFault at kind)) old new is gives = absurd gives
-command-goes r number session line asked after (Stop (status.SettingsFault kind)) old new is gives = absurd gives
-command-goes r number session line asked after (Stop status.ReadFault) old new is gives = absurd gives
 command-goes r number session line asked after (Stop status.WriteFault) old new is gives = λ close lines.
     let bytes = command_bytes r number session asked in
     let rest = run_lines r close (number + 1) (session_behind r session asked) lines in
     let t = take-before bytes (concat rest.commands ++ rest.last) gives.0 in (
-      (
-        t.0,
-        gives.1 ∙ ap (with_more old) (t.1 ∙ ap (take t.0)
-            (sym (append_assoc bytes (concat rest.commands) rest.last) ∙ ap bytes_of (sym (run-line r close number session line lines (command asked) is)))),
-      ),
-      tt,
+      t.0,
+      gives.1 ∙ ap (with_more old) (t.1 ∙ ap (take t.0)
+          (sym (append_assoc bytes (concat rest.commands) rest.last) ∙ ap bytes_of (sym (run-line r close number session line lines (command asked) is)))),
     )
-command-goes r number session line asked after (Stop status.NoMemory) old new is gives = λ close lines. ((0, gives ∙ with_more-none old), tt)
-command-goes r number session line asked after (Stop status.TraceTooLong) old new is gives = absurd gives
+command-goes r number session line asked after (Stop status.NoMemory) old new is gives = λ close lines. (0, gives ∙ with_more-none old)
+command-goes r number session line asked after (Stop answer) old new is gives = absurd gives
 
 -- ---- lines without output
 
-pub blank-goes : (r : Setup) (number : ℕ) (session : Session) (line : List ℕ) (known : Option (List ℕ)) → blank ≡ line_of line
+pub blank-goes : (r : Setup) (number : ℕ) (session : Session) (line : List ℕ) (known : Option (List ℕ)) → blank ≡ line_kind line
     → LineGives r number session line session Next known known
 blank-goes r number session line known is = λ close lines.
     reached-itself (run_lines r close number session (line ∷ lines)) (run_lines r close (number + 1) session lines) known
     (run-line r close number session line lines blank is)
 
-pub faulty-stops : (r : Setup) (number : ℕ) (session : Session) (line : List ℕ) (known : Option (List ℕ)) (kind : TraceFault) → faulty kind ≡ line_of line
+pub faulty-stops : (r : Setup) (number : ℕ) (session : Session) (line : List ℕ) (known : Option (List ℕ)) (kind : TraceFault) → faulty kind ≡ line_kind line
     → LineGives r number session line session (Stop (status.TraceFault number kind)) known known
 faulty-stops r number session line known kind is = λ close lines.
     let e = run-line r close number session line lines (faulty kind) is in (
-      (ap (λ played. played.ending) e, with_more-none known ∙ ap (λ played. with_more known (bytes_of played)) (sym e)),
+      ap (λ played. played.ending) e,
+      with_more-none known ∙ ap (λ played. with_more known (bytes_of played)) (sym e),
       sym (ap (λ played. played.minds) e),
     )
 

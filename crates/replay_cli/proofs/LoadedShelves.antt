@@ -1,9 +1,9 @@
 -- The places that the settings' watchers take.
 use Rattle.std.proofs.Common.{◌≡◌, ℕ, true, List, [], ap}
-use Rattle.edit_model.specs.declared.settings.WatcherSetting.{WatcherSetting}
+use Rattle.trace_model.specs.declared.settings.WatcherSetting.{WatcherSetting}
 use Rattle.edit_model.specs.Minds.{Mind}
-use Rattle.edit_model.specs.Shelves.{loaded_shelf}
-use Rattle.edit_model.proofs.Shelving.{shelf_loaded}
+use Rattle.trace_model.specs.Shelves.{loaded_shelf}
+use Rattle.trace_model.proofs.Shelving.{shelf_loaded}
 use Rattle.watcher_rounds.specs.Rounds.{AreOnShelf}
 
 -- the places that the watchers took are places of the shelf then

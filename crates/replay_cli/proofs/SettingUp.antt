@@ -6,24 +6,24 @@ use Rattle.std.proofs.lemmas.List.{append-nil}
 use Rattle.std.proofs.lemmas.Bool.{cond-true, cond-false}
 use Rattle.std.proofs.lemmas.Bool.Decides.{nat_tests}
 use Rattle.edit_base.specs.declared.bounds.TheConstants.Limits.{SETTINGS_BYTES}
-use Rattle.edit_model.specs.declared.faults.SettingsFault.{SettingsFault}
-use Rattle.edit_model.specs.declared.faults.SettingsFault.TheVariants as setting
-use Rattle.edit_model.specs.Settings as plain
+use Rattle.trace_model.specs.declared.faults.SettingsFault.{SettingsFault}
+use Rattle.trace_model.specs.declared.faults.SettingsFault.TheVariants as setting
+use Rattle.trace_model.specs.Settings as plain
 use Rattle.settings_reader.specs.declared.settings.Settings.{Settings}
 use Rattle.settings_reader.specs.Seen.{as_settings}
-use Rattle.edit_model.specs.Settings.{read_settings, read_document, toml_of}
-use Rattle.edit_model.specs.declared.settings.WatcherSetting.{WatcherSetting}
+use Rattle.trace_model.specs.Settings.{read_settings, read_document, toml_of}
+use Rattle.trace_model.specs.declared.settings.WatcherSetting.{WatcherSetting}
 use Rattle.edit_model.specs.Machine.{Setup}
 use Rattle.edit_model.specs.Minds.{Mind}
-use Rattle.edit_model.specs.Shelves.{loaded_shelf}
-use Rattle.edit_model.specs.Output.{finished, Prepared, prepared, setup}
+use Rattle.trace_model.specs.Shelves.{loaded_shelf}
+use Rattle.trace_model.specs.Output.{Played, finished, Prepared, prepared, setup}
 use Rattle.replay_io.specs.declared.faults.ReadFault.TheVariants as fault
 use Rattle.replay_io.specs.declared.whole_files.ReadEnd.TheVariants.{Whole, Over}
 use Rattle.replay_io.specs.Outside.{Asked, begun_name, Gains, AsksOnce}
 use Rattle.replay_cli.specs.declared.status.Status.{Status}
 use Rattle.replay_cli.specs.declared.status.Status.TheVariants as status
 use Rattle.replay_cli.specs.declared.requests.Task.{Task}
-use Rattle.replay_cli.specs.Runs.{name_list, BeganSome, AskedNext, AsksFor, given, Requested, told_settings, told_setup, LeavesTrace, LeavesBy, Leaves, LeavesFor, Keeps, KeepsBy, KeepsMinds, IsSet, IsReadyBy, IsReady}
+use Rattle.replay_cli.specs.Runs.{name_list, BeganSome, AskedNext, AsksFor, Requested, Told, untold, unset, set_up, gives, told_settings, told_by, told_of, told, LeavesTrace, Leaves, IsSet, IsComplete}
 use Rattle.replay_cli.specs.SetUps.{SetsUp, settings_list, SetUpAsks, TraceAsks, Settles}
 use Rattle.replay_cli.proofs.Known.{with_more-none}
 use Rattle.replay_cli.proofs.LoadedShelves.{none-fits}
@@ -44,27 +44,17 @@ pub told-whole : (answer : Result Settings Status) (told : Option (List ℕ)) (g
     → bytes ≡ gained → Settles answer (read_settings bytes) → SetsUp answer (option_map read_settings told)
 told-whole (Ok it) None gained bytes left gains is settles = tt
 told-whole (Ok it) (Some known) gained bytes left gains is settles = ap read_settings (sym (is ∙ gains.0)) ∙ settles
-told-whole (Err status.Done) told gained bytes left gains is settles = settles
-told-whole (Err status.Usage) told gained bytes left gains is settles = settles
-told-whole (Err (status.TraceFault line kind)) told gained bytes left gains is settles = settles
 told-whole (Err (status.SettingsFault kind)) None gained bytes left gains is settles = tt
 told-whole (Err (status.SettingsFault kind)) (Some known) gained bytes left gains is settles = ap read_settings (sym (is ∙ gains.0)) ∙ settles
-told-whole (Err status.ReadFault) told gained bytes left gains is settles = tt
-told-whole (Err status.WriteFault) told gained bytes left gains is settles = settles
 told-whole (Err status.NoMemory) told gained bytes left gains is settles = tt
-told-whole (Err status.TraceTooLong) told gained bytes left gains is settles = settles
+told-whole (Err answer) told gained bytes left gains is settles = absurd settles
 
 pub asks-settled : (name : List ℕ) (answer : Result Settings Status) (found : Result plain.Settings SettingsFault) (old new : List Asked) → Settles answer found
     → new ≡ old ++ begun_name name ∷ [] → SetUpAsks (Some name) answer old new
 asks-settled name (Ok it) found old new settles asks = asks
-asks-settled name (Err status.Done) found old new settles asks = settles
-asks-settled name (Err status.Usage) found old new settles asks = settles
-asks-settled name (Err (status.TraceFault line kind)) found old new settles asks = settles
 asks-settled name (Err (status.SettingsFault kind)) found old new settles asks = asks
-asks-settled name (Err status.ReadFault) found old new settles asks = absurd settles
-asks-settled name (Err status.WriteFault) found old new settles asks = settles
 asks-settled name (Err status.NoMemory) found old new settles asks = record { begun = name ∷ []; others = []; are = refl; is = asks }
-asks-settled name (Err status.TraceTooLong) found old new settles asks = settles
+asks-settled name (Err answer) found old new settles asks = absurd settles
 
 pub asks-failed : (name : List ℕ) (old new : List Asked) → AsksOnce (Err fault.Failed) name old new → AskedNext (name ∷ []) old new
 asks-failed name old new asks = record {
@@ -105,9 +95,7 @@ both-begun settings trace old mid new first second =
 pub asks-both : (task : Task) (settings : Option (List ℕ)) (trace : List ℕ) (it : Settings) (answer : Status) (old mid new : List Asked)
     → SetUpAsks settings (Ok it) old mid → TraceAsks trace answer mid new
     → AsksFor (Some (record { task = task; settings = settings; trace = trace })) answer old new
-asks-both task settings trace it status.Done old mid new first second = both-begun settings trace old mid new first second
 asks-both task settings trace it status.Usage old mid new first second = second
-asks-both task settings trace it (status.TraceFault line kind) old mid new first second = both-begun settings trace old mid new first second
 asks-both task settings trace it (status.SettingsFault kind) old mid new first second = absurd second
 asks-both task settings trace it status.ReadFault old mid new first second = record {
   begun = settings_list settings;
@@ -116,7 +104,6 @@ asks-both task settings trace it status.ReadFault old mid new first second = rec
   are = names settings trace;
   is = second.1 ∙ ap (λ front. front ++ record { name = trace; begun = second.0 } ∷ []) first;
 }
-asks-both task settings trace it status.WriteFault old mid new first second = both-begun settings trace old mid new first second
 asks-both task settings trace it status.NoMemory old mid new first (inl same) = record {
   begun = settings_list settings;
   others = trace ∷ [];
@@ -129,17 +116,13 @@ asks-both task settings trace it status.NoMemory old mid new first (inr second) 
   are = sym (append-nil (name_list settings trace));
   is = both-begun settings trace old mid new first second;
 }
-asks-both task settings trace it status.TraceTooLong old mid new first second = both-begun settings trace old mid new first second
+asks-both task settings trace it answer old mid new first second = both-begun settings trace old mid new first second
 
 -- the run stopped at the settings
 pub asks-stopped : (task : Task) (settings : Option (List ℕ)) (trace : List ℕ) (answer : Status) (old new : List Asked)
     → SetUpAsks settings (Err answer) old new
     → AsksFor (Some (record { task = task; settings = settings; trace = trace })) answer old new
-asks-stopped task settings trace status.Done old new asks = absurd asks
-asks-stopped task settings trace status.Usage old new asks = asks
-asks-stopped task settings trace (status.TraceFault line kind) old new asks = absurd asks
-asks-stopped task None trace (status.SettingsFault kind) old new asks = asks
-asks-stopped task (Some name) trace (status.SettingsFault kind) old new asks = asks
+asks-stopped task settings trace (status.SettingsFault kind) old new asks = asks
 asks-stopped task settings trace status.ReadFault old new asks = record {
   begun = asks.begun;
   next = asks.next;
@@ -147,14 +130,13 @@ asks-stopped task settings trace status.ReadFault old new asks = record {
   are = names settings trace ∙ ap (λ front. front ++ trace ∷ []) asks.are ∙ append_assoc asks.begun (asks.next.name ∷ asks.others) (trace ∷ []);
   is = asks.is;
 }
-asks-stopped task settings trace status.WriteFault old new asks = absurd asks
 asks-stopped task settings trace status.NoMemory old new asks = record {
   begun = asks.begun;
   others = asks.others ++ trace ∷ [];
   are = names settings trace ∙ ap (λ front. front ++ trace ∷ []) asks.are ∙ append_assoc asks.begun asks.others (trace ∷ []);
   is = asks.is;
 }
-asks-stopped task settings trace status.TraceTooLong old new asks = absurd asks
+asks-stopped task settings trace answer old new asks = absurd asks
 
 -- ---- what a run is set to
 
@@ -207,158 +189,86 @@ asks-unloaded task None stands trace it minds kind old new sets fails asks =
     watchers_asked (Err found) = []
 asks-unloaded task (Some name) stands trace it minds kind old new sets fails asks = asks
 
+-- only a file's settings have a fault
+pub built_in-set : (asked : Option Requested) (answer : Status) (old new : List Asked) → AsksFor asked answer old new
+    → IfSome asked (λ it. it.settings ≡ None → IsSet answer)
+built_in-set None answer old new asks = tt
+built_in-set (Some it) status.Usage old new asks = absurd asks
+built_in-set (Some it) (status.SettingsFault kind) old new asks = λ none. rw none at asks
+built_in-set (Some it) answer old new asks = λ none. tt
+
 -- ---- what a run leaves
 
-module _ (task : Task) (minds : List Mind) where
-  -- nothing was written yet
-  leaves-unread : (found : Result Setup SettingsFault) (trace : Option (List ℕ)) (left known : Option (List ℕ))
-      → LeavesBy task minds found trace status.ReadFault left known known
-  leaves-unread (Err it) trace left known = refl
-  leaves-unread (Ok r) None left known = tt
-  leaves-unread (Ok r) (Some bytes) left known = refl
+-- nothing was written yet
+leaves-unread : (told : Told) (left known : Option (List ℕ)) (minds : List Mind) → Leaves told status.ReadFault left known known minds
+leaves-unread untold left known minds = tt
+leaves-unread (unset found kept) left known minds = refl
+leaves-unread set_up left known minds = tt
+leaves-unread (gives trace played) left known minds = refl
 
-  leaves-wanting : (found : Result Setup SettingsFault) (trace : Option (List ℕ)) (left known : Option (List ℕ))
-      → LeavesBy task minds found trace status.NoMemory left known known
-  leaves-wanting (Err it) trace left known = refl
-  leaves-wanting (Ok r) None left known = tt
-  leaves-wanting (Ok r) (Some bytes) left known = (0, with_more-none known)
+pub leaves-wanting : (told : Told) (left known : Option (List ℕ)) (minds : List Mind) → Leaves told status.NoMemory left known known minds
+leaves-wanting untold left known minds = tt
+leaves-wanting (unset found kept) left known minds = refl
+leaves-wanting set_up left known minds = tt
+leaves-wanting (gives trace played) left known minds = (tt, (0, with_more-none known))
 
-  keeps-unread : (found : Result Setup SettingsFault) (trace : Option (List ℕ)) (after : List Mind) → KeepsBy task minds found trace status.ReadFault after
-  keeps-unread (Err it) trace after = tt
-  keeps-unread (Ok r) None after = tt
-  keeps-unread (Ok r) (Some bytes) after = tt
+-- there was no memory before anything was asked for
+pub leaves-nothing : (told : Told) (left old new : Option (List ℕ)) → new ≡ old → (minds : List Mind) × Leaves told status.NoMemory left old new minds
+leaves-nothing told left old new same = ([], rw same (leaves-wanting told left old []))
 
-  keeps-wanting : (found : Result Setup SettingsFault) (trace : Option (List ℕ)) (after : List Mind) → KeepsBy task minds found trace status.NoMemory after
-  keeps-wanting (Err it) trace after = tt
-  keeps-wanting (Ok r) None after = tt
-  keeps-wanting (Ok r) (Some bytes) after = tt
+-- of a shelf with these minds some minds are left
+pub leaves-some : (asked : Option Requested) (stands : List ℕ → Option (List ℕ)) (minds known : List Mind) (answer : Status)
+    (left old new : Option (List ℕ)) (after : List Mind) → Leaves (told asked stands minds) answer left old new after → minds ≡ known
+    → (some : List Mind) × Leaves (told asked stands known) answer left old new some
+leaves-some asked stands minds known answer left old new after leaves same = (after, rw same at leaves)
+
+-- what follows from completeness with a shelf of these minds
+pub complete-of : (asked : Option Requested) (stands : List ℕ → Option (List ℕ)) (minds known : List Mind) (P : Type 0) → minds ≡ known
+    → (IsComplete (told asked stands minds) → P) → IsComplete (told asked stands known) → P
+complete-of asked stands minds known P same holds ready = holds (rw same ready)
 
 -- the run stopped at the settings
 pub leaves-stopped : (task : Task) (told : Option (Result plain.Settings SettingsFault)) (minds : List Mind) (trace : Option (List ℕ)) (answer : Status)
     (left known : Option (List ℕ))
-    → SetsUp (Err answer) told → Leaves task (option_map (λ found. prepared found minds) told) trace answer left known known
-leaves-stopped task None minds trace answer left known sets = tt
-leaves-stopped task (Some (Err found)) minds trace status.Done left known sets = sets
-leaves-stopped task (Some (Err found)) minds trace status.Usage left known sets = sets
-leaves-stopped task (Some (Err found)) minds trace (status.TraceFault line kind) left known sets = sets
-leaves-stopped task (Some (Err found)) minds trace (status.SettingsFault kind) left known sets = let e : kind ≡ found = cc in (e, refl)
-leaves-stopped task (Some (Err found)) minds trace status.ReadFault left known sets = refl
-leaves-stopped task (Some (Err found)) minds trace status.WriteFault left known sets = sets
-leaves-stopped task (Some (Err found)) minds trace status.NoMemory left known sets = refl
-leaves-stopped task (Some (Err found)) minds trace status.TraceTooLong left known sets = sets
-leaves-stopped task (Some (Ok it)) minds trace status.Done left known sets = absurd sets
-leaves-stopped task (Some (Ok it)) minds trace status.Usage left known sets = absurd sets
-leaves-stopped task (Some (Ok it)) minds trace (status.TraceFault line kind) left known sets = absurd sets
+    → SetsUp (Err answer) told → Leaves (told_of task (option_map (λ found. prepared found minds) told) trace) answer left known known minds
+leaves-stopped task told minds trace status.ReadFault left known sets =
+    leaves-unread (told_of task (option_map (λ found. prepared found minds) told) trace) left known minds
+leaves-stopped task told minds trace status.NoMemory left known sets =
+    leaves-wanting (told_of task (option_map (λ found. prepared found minds) told) trace) left known minds
+leaves-stopped task None minds trace (status.SettingsFault kind) left known sets = tt
+leaves-stopped task (Some (Err found)) minds trace (status.SettingsFault kind) left known sets = let e : kind ≡ found = cc in (e, refl, refl)
 leaves-stopped task (Some (Ok it)) minds trace (status.SettingsFault kind) left known sets = absurd (cc)
-leaves-stopped task (Some (Ok it)) minds trace status.ReadFault left known sets =
-    leaves-unread task (prepared (Ok it) minds).minds (prepared (Ok it) minds).found trace left known
-leaves-stopped task (Some (Ok it)) minds trace status.WriteFault left known sets = absurd sets
-leaves-stopped task (Some (Ok it)) minds trace status.NoMemory left known sets =
-    leaves-wanting task (prepared (Ok it) minds).minds (prepared (Ok it) minds).found trace left known
-leaves-stopped task (Some (Ok it)) minds trace status.TraceTooLong left known sets = absurd sets
-
--- the minds of the shelf are as before then
-pub keeps-stopped : (task : Task) (told : Option (Result plain.Settings SettingsFault)) (minds : List Mind) (trace : Option (List ℕ)) (answer : Status)
-    → SetsUp (Err answer) told → KeepsMinds task (option_map (λ found. prepared found minds) told) trace answer minds
-keeps-stopped task None minds trace answer sets = tt
-keeps-stopped task (Some (Err found)) minds trace status.Done sets = tt
-keeps-stopped task (Some (Err found)) minds trace status.Usage sets = tt
-keeps-stopped task (Some (Err found)) minds trace (status.TraceFault line kind) sets = tt
-keeps-stopped task (Some (Err found)) minds trace (status.SettingsFault kind) sets = refl
-keeps-stopped task (Some (Err found)) minds trace status.ReadFault sets = tt
-keeps-stopped task (Some (Err found)) minds trace status.WriteFault sets = tt
-keeps-stopped task (Some (Err found)) minds trace status.NoMemory sets = tt
-keeps-stopped task (Some (Err found)) minds trace status.TraceTooLong sets = tt
-keeps-stopped task (Some (Ok it)) minds trace status.Done sets = absurd sets
-keeps-stopped task (Some (Ok it)) minds trace status.Usage sets = absurd sets
-keeps-stopped task (Some (Ok it)) minds trace (status.TraceFault line kind) sets = absurd sets
-keeps-stopped task (Some (Ok it)) minds trace (status.SettingsFault kind) sets = absurd (cc)
-keeps-stopped task (Some (Ok it)) minds trace status.ReadFault sets =
-    keeps-unread task (prepared (Ok it) minds).minds (prepared (Ok it) minds).found trace minds
-keeps-stopped task (Some (Ok it)) minds trace status.WriteFault sets = absurd sets
-keeps-stopped task (Some (Ok it)) minds trace status.NoMemory sets =
-    keeps-wanting task (prepared (Ok it) minds).minds (prepared (Ok it) minds).found trace minds
-keeps-stopped task (Some (Ok it)) minds trace status.TraceTooLong sets = absurd sets
+leaves-stopped task told minds trace answer left known sets = absurd sets
 
 module _ (task : Task) (minds : List Mind) (trace : Option (List ℕ)) where
   -- the run stopped at the shelf
   pub leaves-unloaded : (told : Option Prepared) (kind : SettingsFault) (left known : Option (List ℕ)) → kind ≡ setting.Watcher
-      → IsPrepared told minds (Err setting.Watcher) → Leaves task told trace (status.SettingsFault kind) left known known
+      → IsPrepared told minds (Err setting.Watcher) → Leaves (told_of task told trace) (status.SettingsFault kind) left known known minds
   leaves-unloaded None kind left known is found = tt
-  leaves-unloaded (Some it) kind left known is found = rw found.1 (is, refl)
+  leaves-unloaded (Some it) kind left known is found = rw found.1 (is, refl, sym found.0)
 
-  pub keeps-unloaded : (told : Option Prepared) (kind : SettingsFault) → IsPrepared told minds (Err setting.Watcher)
-      → KeepsMinds task told trace (status.SettingsFault kind) minds
-  keeps-unloaded None kind found = tt
-  keeps-unloaded (Some it) kind found = rw found.1 (sym found.0)
-
-  module _ (r : Setup) (answer : Status) where
-    leaves-by : (left old new : Option (List ℕ)) → IsSet answer → IfSome trace (λ bytes. LeavesTrace r minds task bytes answer left old new)
-        → LeavesBy task minds (Ok r) trace answer left old new
-    leaves-by left old new set leaves = of trace leaves
-      where
-        of : (trace : Option (List ℕ)) → IfSome trace (λ bytes. LeavesTrace r minds task bytes answer left old new)
-            → LeavesBy task minds (Ok r) trace answer left old new
-        of None leaves = set
-        of (Some bytes) leaves = leaves
-
-    -- the watchers were loaded, and the trace was run or checked
-    pub leaves-run : (told : Option Prepared) (left old new : Option (List ℕ)) → IsPrepared told minds (Ok r)
-        → IsSet answer → IfSome trace (λ bytes. LeavesTrace r minds task bytes answer left old new) → Leaves task told trace answer left old new
-    leaves-run None left old new found set leaves = tt
-    leaves-run (Some it) left old new found set leaves = rw found.0 (rw found.1 (leaves-by left old new set leaves))
-
-    keeps-by : (after : List Mind) → IfSome trace (λ bytes. Keeps (given r minds task bytes) answer after) → KeepsBy task minds (Ok r) trace answer after
-    keeps-by after keeps = of trace keeps
-      where
-        of : (trace : Option (List ℕ)) → IfSome trace (λ bytes. Keeps (given r minds task bytes) answer after)
-            → KeepsBy task minds (Ok r) trace answer after
-        of None keeps = tt
-        of (Some bytes) keeps = keeps
-
-    pub keeps-run : (told : Option Prepared) (after : List Mind) → IsPrepared told minds (Ok r)
-        → IfSome trace (λ bytes. Keeps (given r minds task bytes) answer after) → KeepsMinds task told trace answer after
-    keeps-run None after found keeps = tt
-    keeps-run (Some it) after found keeps = rw found.0 (rw found.1 (keeps-by after keeps))
-
--- there was no memory before anything was asked for
-wanting : (task : Task) (told : Option Prepared) (trace left known : Option (List ℕ)) → Leaves task told trace status.NoMemory left known known
-wanting task None trace left known = tt
-wanting task (Some it) trace left known = leaves-wanting task it.minds it.found trace left known
-
-pub leaves-nothing : (asked : Option Requested) (stands : List ℕ → Option (List ℕ)) (minds : List Mind) (left old new : Option (List ℕ)) → new ≡ old
-    → LeavesFor asked stands minds status.NoMemory left old new
-leaves-nothing None stands minds left old new same = same
-leaves-nothing (Some it) stands minds left old new same = rw same (wanting it.task (told_setup it.settings stands minds) (stands it.trace) left old)
+  -- the watchers were loaded, and the trace was run or checked
+  pub leaves-run : (r : Setup) (answer : Status) (told : Option Prepared) (left old new : Option (List ℕ)) (after : List Mind) → IsPrepared told minds (Ok r)
+      → Leaves (told_by task minds (Ok r) trace) answer left old new after → Leaves (told_of task told trace) answer left old new after
+  leaves-run r answer None left old new after found leaves = tt
+  leaves-run r answer (Some it) left old new after found leaves = rw found.0 (rw found.1 leaves)
 
 -- ---- completeness
 
-complete-trace : (r : Setup) (minds : List Mind) (task : Task) (bytes : List ℕ) (answer : Status) (left old new : Option (List ℕ))
-    → (given r minds task bytes).ending ≡ finished → LeavesTrace r minds task bytes answer left old new
+complete-trace : (trace : List ℕ) (played : Played) (answer : Status) (left old new : Option (List ℕ)) (minds : List Mind)
+    → played.ending ≡ finished → LeavesTrace trace played answer left old new minds
     → (answer ≡ status.ReadFault → ⊥) → (answer ≡ status.WriteFault → ⊥) → (answer ≡ status.Done) ⊎ (answer ≡ status.NoMemory)
-complete-trace r minds task bytes status.Done left old new ends leaves unread unwritten = inl refl
-complete-trace r minds task bytes status.Usage left old new ends leaves unread unwritten = absurd leaves
-complete-trace r minds task bytes (status.TraceFault line kind) left old new ends leaves unread unwritten = let no = leaves.1.0 in absurd (cc)
-complete-trace r minds task bytes (status.SettingsFault kind) left old new ends leaves unread unwritten = absurd leaves
-complete-trace r minds task bytes status.ReadFault left old new ends leaves unread unwritten = absurd (unread refl)
-complete-trace r minds task bytes status.WriteFault left old new ends leaves unread unwritten = absurd (unwritten refl)
-complete-trace r minds task bytes status.NoMemory left old new ends leaves unread unwritten = inr refl
-complete-trace r minds task bytes status.TraceTooLong left old new ends leaves unread unwritten = let no = leaves.1.0 in absurd (cc)
+complete-trace trace played status.Done left old new minds ends leaves unread unwritten = inl refl
+complete-trace trace played status.NoMemory left old new minds ends leaves unread unwritten = inr refl
+complete-trace trace played status.ReadFault left old new minds ends leaves unread unwritten = absurd (unread refl)
+complete-trace trace played status.WriteFault left old new minds ends leaves unread unwritten = absurd (unwritten refl)
+complete-trace trace played (status.TraceFault line kind) left old new minds ends leaves unread unwritten = let no = leaves.1.0 in absurd (cc)
+complete-trace trace played status.TraceTooLong left old new minds ends leaves unread unwritten = let no = leaves.1.0 in absurd (cc)
+complete-trace trace played answer left old new minds ends leaves unread unwritten = absurd leaves.1
 
-complete-by : (task : Task) (minds : List Mind) (found : Result Setup SettingsFault) (trace : Option (List ℕ)) (answer : Status)
-    (left old new : Option (List ℕ))
-    → IsReadyBy task minds found trace → LeavesBy task minds found trace answer left old new
-    → (answer ≡ status.ReadFault → ⊥) → (answer ≡ status.WriteFault → ⊥)
+pub complete : (told : Told) (answer : Status) (left old new : Option (List ℕ)) (minds : List Mind) → IsComplete told
+    → Leaves told answer left old new minds → (answer ≡ status.ReadFault → ⊥) → (answer ≡ status.WriteFault → ⊥)
     → (answer ≡ status.Done) ⊎ (answer ≡ status.NoMemory)
-complete-by task minds (Err found) trace answer left old new ready leaves unread unwritten = absurd ready
-complete-by task minds (Ok r) None answer left old new ready leaves unread unwritten = absurd ready
-complete-by task minds (Ok r) (Some bytes) answer left old new ready leaves unread unwritten = complete-trace r minds task bytes answer left old new ready
-    leaves unread unwritten
-
-pub complete : (task : Task) (told : Option Prepared) (trace : Option (List ℕ)) (answer : Status) (left old new : Option (List ℕ))
-    → IsReady task told trace
-    → Leaves task told trace answer left old new → (answer ≡ status.ReadFault → ⊥) → (answer ≡ status.WriteFault → ⊥)
-    → (answer ≡ status.Done) ⊎ (answer ≡ status.NoMemory)
-complete task None trace answer left old new ready leaves unread unwritten = absurd ready
-complete task (Some it) trace answer left old new ready leaves unread unwritten =
-    complete-by task it.minds it.found trace answer left old new ready leaves unread unwritten
+complete (gives trace played) answer left old new minds ends leaves unread unwritten =
+    complete-trace trace played answer left old new minds ends leaves unread unwritten
+complete told answer left old new minds ends leaves unread unwritten = absurd ends

@@ -1,6 +1,5 @@
 pub mod Statuses
 pub mod Runs
 pub mod Requests
-pub mod Lines
 pub mod Steps
 pub mod SetUps

@@ -4,11 +4,11 @@ use Rattle.std.specs.Option.{option_map}
 use Rattle.std.specs.List.{concat}
 use Rattle.std.specs.Str.{bytes_eq}
 use Rattle.edit_base.specs.declared.bounds.TheConstants.Limits.{TRACE_BYTES}
-use Rattle.edit_model.specs.declared.faults.SettingsFault.{SettingsFault}
-use Rattle.edit_model.specs.Settings.{Settings, built_in, read_settings, watcher_kinds}
+use Rattle.trace_model.specs.declared.faults.SettingsFault.{SettingsFault}
+use Rattle.trace_model.specs.Settings.{Settings, built_in, read_settings, watcher_kinds}
 use Rattle.edit_model.specs.Machine.{Setup}
 use Rattle.edit_model.specs.Minds.{Mind, blank_mind}
-use Rattle.edit_model.specs.Output.{Played, finished, faulty_line, too_long, bytes_of, play, check, Prepared, prepared}
+use Rattle.trace_model.specs.Output.{Played, Ending, finished, faulty_line, too_long, bytes_of, play, check, Prepared, prepared}
 use Rattle.replay_io.specs.Outside.{Asked, begun_name, with_more, TookMore}
 use Rattle.replay_cli.specs.declared.status.Status.{Status}
 use Rattle.replay_cli.specs.declared.status.Status.TheVariants as status
@@ -33,11 +33,8 @@ named_task word = if bytes_eq word (codes "play") then Some Play else (if bytes_
 
 -- the words are `play SETTINGS TRACE` or `check SETTINGS TRACE`
 abbrev pub requested_by : List (List ℕ) → Option Requested
-requested_by [] = None
-requested_by (word ∷ []) = None
-requested_by (word ∷ settings ∷ []) = None
 requested_by (word ∷ settings ∷ trace ∷ []) = option_map (λ task. requested task settings trace) (named_task word)
-requested_by (word ∷ settings ∷ trace ∷ more ∷ others) = None
+requested_by words = None
 
 -- ---- names
 
@@ -69,151 +66,102 @@ abbrev pub BeganSettings : Option (List ℕ) → List Asked → List Asked → T
 BeganSettings None old new = ⊥
 BeganSettings (Some settings) old new = new ≡ old ++ begun_name settings ∷ []
 
+-- the names that a run has asked for, by its status
 abbrev pub AsksFor : Option Requested → Status → List Asked → List Asked → Type 0
 AsksFor None answer old new = new ≡ old
-AsksFor (Some it) status.Done old new = new ≡ old ++ map begun_name (names_of it)
 AsksFor (Some it) status.Usage old new = ⊥
-AsksFor (Some it) (status.TraceFault line kind) old new = new ≡ old ++ map begun_name (names_of it)
 AsksFor (Some it) (status.SettingsFault kind) old new = BeganSettings it.settings old new
 AsksFor (Some it) status.ReadFault old new = AskedNext (names_of it) old new
-AsksFor (Some it) status.WriteFault old new = new ≡ old ++ map begun_name (names_of it)
 AsksFor (Some it) status.NoMemory old new = BeganSome (names_of it) old new
-AsksFor (Some it) status.TraceTooLong old new = new ≡ old ++ map begun_name (names_of it)
+AsksFor (Some it) answer old new = new ≡ old ++ map begun_name (names_of it)
 
--- ---- output
+-- ---- what the store tells
 
--- what a run of a trace that was read has written, by its status; a status that can't come has no case
-abbrev pub Writes : Played → Status → Option (List ℕ) → Option (List ℕ) → Type 0
-Writes played status.Done old new = (played.ending ≡ finished) × (new ≡ with_more old (bytes_of played))
-Writes played status.Usage old new = ⊥
-Writes played (status.TraceFault line kind) old new = (played.ending ≡ faulty_line line kind) × (new ≡ with_more old (bytes_of played))
-Writes played (status.SettingsFault kind) old new = ⊥
-Writes played status.ReadFault old new = ⊥
-Writes played status.WriteFault old new = (count : ℕ) × (new ≡ with_more old (take count (bytes_of played)))
-Writes played status.NoMemory old new = (count : ℕ) × (new ≡ with_more old (concat (take count played.commands)))
-Writes played status.TraceTooLong old new = (played.ending ≡ too_long) × (new ≡ with_more old (bytes_of played))
-
--- the minds of the shelf behind a run of a trace that was read, where it came to an end of the trace or of its lines
-abbrev pub Keeps : Played → Status → List Mind → Type 0
-Keeps played status.Done minds = minds ≡ played.minds
-Keeps played status.Usage minds = Unit {0}
-Keeps played (status.TraceFault line kind) minds = minds ≡ played.minds
-Keeps played (status.SettingsFault kind) minds = Unit {0}
-Keeps played status.ReadFault minds = Unit {0}
-Keeps played status.WriteFault minds = Unit {0}
-Keeps played status.NoMemory minds = Unit {0}
-Keeps played status.TraceTooLong minds = minds ≡ played.minds
+-- what the store tells of a run: nothing of its settings; that they, or the shelf, have this fault, behind loads that left these minds; that they have
+-- none, but nothing of the trace; or the trace, and what it gives
+pub data Told : Type 0 where
+  untold : Told
+  unset : SettingsFault → List Mind → Told
+  set_up : Told
+  gives : List ℕ → Played → Told
 
 -- what a trace gives under a setup and a task, from the minds of the loaded shelf
 abbrev pub given : Setup → List Mind → Task → List ℕ → Played
 given r minds Play trace = play r minds trace
 given r minds Check trace = check minds trace
 
--- the trace was taken whole, or more of it than its limit
-abbrev pub Took : List ℕ → Option (List ℕ) → Type 0
-Took trace left = (length trace ≤ TRACE_BYTES → left ≡ Some []) × (TRACE_BYTES < length trace → TookMore TRACE_BYTES trace left)
+-- what is told of a run by the minds of the shelf, what it is set to, and its trace
+abbrev pub told_by : Task → List Mind → Result Setup SettingsFault → Option (List ℕ) → Told
+told_by task minds (Err found) trace = unset found minds
+told_by task minds (Ok r) None = set_up
+told_by task minds (Ok r) (Some trace) = gives trace (given r minds task trace)
 
--- what is left of a trace and was written, by the status, where the settings have a reading and their watchers are loaded
-abbrev pub LeavesTrace : Setup → List Mind → Task → List ℕ → Status → Option (List ℕ) → Option (List ℕ) → Option (List ℕ) → Type 0
-LeavesTrace r minds task trace status.Done left old new = (left ≡ Some []) × Writes (given r minds task trace) status.Done old new
-LeavesTrace r minds task trace status.Usage left old new = ⊥
-LeavesTrace r minds task trace (status.TraceFault line kind) left old new = Took trace left
-    × Writes (given r minds task trace) (status.TraceFault line kind) old new
-LeavesTrace r minds task trace (status.SettingsFault kind) left old new = ⊥
-LeavesTrace r minds task trace status.ReadFault left old new = new ≡ old
-LeavesTrace r minds task trace status.WriteFault left old new = Took trace left × Writes (given r minds task trace) status.WriteFault old new
-LeavesTrace r minds task trace status.NoMemory left old new = Writes (given r minds task trace) status.NoMemory old new
-LeavesTrace r minds task trace status.TraceTooLong left old new = TookMore TRACE_BYTES trace left
-    × Writes (given r minds task trace) status.TraceTooLong old new
-
--- where the settings have a fault, nothing of the trace is read and nothing written
-abbrev pub LeavesUnset : SettingsFault → Status → Option (List ℕ) → Option (List ℕ) → Type 0
-LeavesUnset found status.Done old new = ⊥
-LeavesUnset found status.Usage old new = ⊥
-LeavesUnset found (status.TraceFault line kind) old new = ⊥
-LeavesUnset found (status.SettingsFault kind) old new = (kind ≡ found) × (new ≡ old)
-LeavesUnset found status.ReadFault old new = new ≡ old
-LeavesUnset found status.WriteFault old new = ⊥
-LeavesUnset found status.NoMemory old new = new ≡ old
-LeavesUnset found status.TraceTooLong old new = ⊥
-
--- the settings have no fault, and the words a form
-abbrev pub IsSet : Status → Type 0
-IsSet status.Done = Unit {0}
-IsSet status.Usage = ⊥
-IsSet (status.TraceFault line kind) = Unit {0}
-IsSet (status.SettingsFault kind) = ⊥
-IsSet status.ReadFault = Unit {0}
-IsSet status.WriteFault = Unit {0}
-IsSet status.NoMemory = Unit {0}
-IsSet status.TraceTooLong = Unit {0}
-
--- what a run leaves by what it is set to, where the store tells the trace
-abbrev pub LeavesBy : Task → List Mind → Result Setup SettingsFault → Option (List ℕ) → Status → Option (List ℕ) → Option (List ℕ) → Option (List ℕ) → Type 0
-LeavesBy task minds (Err found) trace answer left old new = LeavesUnset found answer old new
-LeavesBy task minds (Ok r) None answer left old new = IsSet answer
-LeavesBy task minds (Ok r) (Some trace) answer left old new = LeavesTrace r minds task trace answer left old new
-
--- what a run leaves, where the store tells the settings and the trace
-abbrev pub Leaves : Task → Option Prepared → Option (List ℕ) → Status → Option (List ℕ) → Option (List ℕ) → Option (List ℕ) → Type 0
-Leaves task None trace answer left old new = Unit {0}
-Leaves task (Some it) trace answer left old new = LeavesBy task it.minds it.found trace answer left old new
-
--- the minds of the shelf behind a run: where the settings or the shelf have a fault, those behind the loads before it
-abbrev pub KeepsUnset : List Mind → Status → List Mind → Type 0
-KeepsUnset minds status.Done after = Unit {0}
-KeepsUnset minds status.Usage after = Unit {0}
-KeepsUnset minds (status.TraceFault line kind) after = Unit {0}
-KeepsUnset minds (status.SettingsFault kind) after = after ≡ minds
-KeepsUnset minds status.ReadFault after = Unit {0}
-KeepsUnset minds status.WriteFault after = Unit {0}
-KeepsUnset minds status.NoMemory after = Unit {0}
-KeepsUnset minds status.TraceTooLong after = Unit {0}
-
-abbrev pub KeepsBy : Task → List Mind → Result Setup SettingsFault → Option (List ℕ) → Status → List Mind → Type 0
-KeepsBy task minds (Err found) trace answer after = KeepsUnset minds answer after
-KeepsBy task minds (Ok r) None answer after = Unit {0}
-KeepsBy task minds (Ok r) (Some trace) answer after = Keeps (given r minds task trace) answer after
-
-abbrev pub KeepsMinds : Task → Option Prepared → Option (List ℕ) → Status → List Mind → Type 0
-KeepsMinds task None trace answer after = Unit {0}
-KeepsMinds task (Some it) trace answer after = KeepsBy task it.minds it.found trace answer after
-
--- ---- what the store tells
+abbrev pub told_of : Task → Option Prepared → Option (List ℕ) → Told
+told_of task None trace = untold
+told_of task (Some it) trace = told_by task it.minds it.found trace
 
 -- the settings that were asked for, where the store tells them
 abbrev pub told_settings : Option (List ℕ) → (List ℕ → Option (List ℕ)) → Option (Result Settings SettingsFault)
 told_settings None stands = Some (Ok built_in)
 told_settings (Some name) stands = option_map read_settings (stands name)
 
--- what they set a run to, with a shelf of these minds
-abbrev pub told_setup : Option (List ℕ) → (List ℕ → Option (List ℕ)) → List Mind → Option Prepared
-told_setup settings stands minds = option_map (λ found. prepared found minds) (told_settings settings stands)
+-- what is told of a run with a shelf of these minds, by what stands under each name; of words that ask for nothing, nothing
+abbrev pub told : Option Requested → (List ℕ → Option (List ℕ)) → List Mind → Told
+told None stands minds = untold
+told (Some it) stands minds = told_of it.task (option_map (λ found. prepared found minds) (told_settings it.settings stands)) (stands it.trace)
 
 -- the minds of the shelf that the program starts with: a blank watcher of each kind that there is, in the order of the kinds
 abbrev pub blank_shelf : List Mind
 blank_shelf = map (λ kind. blank_mind kind.1) watcher_kinds
 
--- what words ask for, where they ask for something
-abbrev pub LeavesFor : Option Requested → (List ℕ → Option (List ℕ)) → List Mind → Status → Option (List ℕ) → Option (List ℕ) → Option (List ℕ) → Type 0
-LeavesFor None stands minds answer left old new = new ≡ old
-LeavesFor (Some it) stands minds answer left old new = Leaves it.task (told_setup it.settings stands minds) (stands it.trace) answer left old new
+-- ---- what a run leaves
 
-abbrev pub KeepsFor : Option Requested → (List ℕ → Option (List ℕ)) → List Mind → Status → List Mind → Type 0
-KeepsFor None stands minds answer after = after ≡ minds
-KeepsFor (Some it) stands minds answer after = KeepsMinds it.task (told_setup it.settings stands minds) (stands it.trace) answer after
+-- the run came to this end, with all of its bytes written, and these minds kept
+abbrev pub EndsAt : Ending → Played → Option (List ℕ) → Option (List ℕ) → List Mind → Type 0
+EndsAt ending played old new minds = (played.ending ≡ ending) × (new ≡ with_more old (bytes_of played)) × (minds ≡ played.minds)
 
-abbrev pub IsReadyBy : Task → List Mind → Result Setup SettingsFault → Option (List ℕ) → Type 0
-IsReadyBy task minds (Err found) trace = ⊥
-IsReadyBy task minds (Ok r) None = ⊥
-IsReadyBy task minds (Ok r) (Some trace) = (given r minds task trace).ending ≡ finished
+-- how a run over what a trace gives ends, by its status: what was written, and what the watchers keep; a status that can't come has no case
+abbrev pub Ends : Played → Status → Option (List ℕ) → Option (List ℕ) → List Mind → Type 0
+Ends played status.Done old new minds = EndsAt finished played old new minds
+Ends played (status.TraceFault line kind) old new minds = EndsAt (faulty_line line kind) played old new minds
+Ends played status.TraceTooLong old new minds = EndsAt too_long played old new minds
+Ends played status.WriteFault old new minds = (count : ℕ) × (new ≡ with_more old (take count (bytes_of played)))
+Ends played status.NoMemory old new minds = (count : ℕ) × (new ≡ with_more old (concat (take count played.commands)))
+Ends played answer old new minds = ⊥
 
-abbrev pub IsReady : Task → Option Prepared → Option (List ℕ) → Type 0
-IsReady task None trace = ⊥
-IsReady task (Some it) trace = IsReadyBy task it.minds it.found trace
+-- what is left of the trace then: it was taken whole, or more of it than its limit
+abbrev pub Takes : List ℕ → Status → Option (List ℕ) → Type 0
+Takes trace status.Done left = left ≡ Some []
+Takes trace status.TraceTooLong left = TookMore TRACE_BYTES trace left
+Takes trace status.NoMemory left = Unit {0}
+Takes trace answer left = (length trace ≤ TRACE_BYTES → left ≡ Some []) × (TRACE_BYTES < length trace → TookMore TRACE_BYTES trace left)
 
--- the settings have a reading, their watchers stand on the shelf, and every line that isn't blank is a command, the trace
--- being within its limit
-abbrev pub IsComplete : Option Requested → (List ℕ → Option (List ℕ)) → List Mind → Type 0
-IsComplete None stands minds = ⊥
-IsComplete (Some it) stands minds = IsReady it.task (told_setup it.settings stands minds) (stands it.trace)
+-- a run over this trace, which gives this; where it can't be read, nothing is written
+abbrev pub LeavesTrace : List ℕ → Played → Status → Option (List ℕ) → Option (List ℕ) → Option (List ℕ) → List Mind → Type 0
+LeavesTrace trace played status.ReadFault left old new minds = new ≡ old
+LeavesTrace trace played answer left old new minds = Takes trace answer left × Ends played answer old new minds
+
+-- where the settings or the shelf have a fault, nothing is written, and the minds are those behind the loads before it
+abbrev pub LeavesUnset : SettingsFault → List Mind → Status → Option (List ℕ) → Option (List ℕ) → List Mind → Type 0
+LeavesUnset found kept (status.SettingsFault kind) old new minds = (kind ≡ found) × (new ≡ old) × (minds ≡ kept)
+LeavesUnset found kept status.ReadFault old new minds = new ≡ old
+LeavesUnset found kept status.NoMemory old new minds = new ≡ old
+LeavesUnset found kept answer old new minds = ⊥
+
+-- the words have a form, and the settings no fault
+abbrev pub IsSet : Status → Type 0
+IsSet status.Usage = ⊥
+IsSet (status.SettingsFault kind) = ⊥
+IsSet answer = Unit {0}
+
+-- what a run leaves of its trace, has written, and leaves in the minds of the shelf
+abbrev pub Leaves : Told → Status → Option (List ℕ) → Option (List ℕ) → Option (List ℕ) → List Mind → Type 0
+Leaves untold answer left old new minds = Unit {0}
+Leaves (unset found kept) answer left old new minds = LeavesUnset found kept answer old new minds
+Leaves set_up answer left old new minds = IsSet answer
+Leaves (gives trace played) answer left old new minds = LeavesTrace trace played answer left old new minds
+
+-- the settings have a reading, their watchers stand on the shelf, and every line that isn't blank is a command, the trace being within its limit
+abbrev pub IsComplete : Told → Type 0
+IsComplete (gives trace played) = played.ending ≡ finished
+IsComplete it = ⊥

@@ -1,7 +1,7 @@
 -- What reading the settings gives, and what running a trace asks for.
 use Rattle.std.specs.Prelude.{ℕ, ◌≡◌, ◌⊎◌, ◌++◌, Bool, List, [], ◌∷◌, map, Option, Some, None, IfSome, Result, Ok, Err}
-use Rattle.edit_model.specs.declared.faults.SettingsFault.{SettingsFault}
-use Rattle.edit_model.specs.Settings as plain
+use Rattle.trace_model.specs.declared.faults.SettingsFault.{SettingsFault}
+use Rattle.trace_model.specs.Settings as plain
 use Rattle.settings_reader.specs.declared.settings.Settings.{Settings}
 use Rattle.settings_reader.specs.Seen.{as_settings}
 use Rattle.replay_io.specs.Outside.{Asked, begun_name}
@@ -9,24 +9,19 @@ use Rattle.replay_cli.specs.declared.status.Status.{Status}
 use Rattle.replay_cli.specs.declared.status.Status.TheVariants as status
 use Rattle.edit_model.specs.Machine.{Setup}
 use Rattle.edit_model.specs.Minds.{Mind}
-use Rattle.edit_model.specs.Output.{Played, first_session, run_lines, check_lines}
+use Rattle.trace_model.specs.Output.{Played, first_session, run_lines, check_lines}
 use Rattle.replay_cli.specs.declared.requests.Task.{Task}
 use Rattle.replay_cli.specs.declared.requests.Task.TheVariants.{Play, Check}
-use Rattle.replay_cli.specs.Lines.{lines_in}
-use Rattle.replay_cli.specs.Steps.{close_of, close_check}
-use Rattle.replay_cli.specs.Runs.{BeganSome, AskedNext}
+use Rattle.replay_cli.specs.Steps.{lines_in, close_of, close_check}
+use Rattle.replay_cli.specs.Runs.{BeganSome, AskedNext, BeganSettings}
 
 -- the settings that were read, or why a run stops before its trace
 abbrev pub SetsUp : Result Settings Status → Option (Result plain.Settings SettingsFault) → Type 0
 SetsUp (Ok settings) told = IfSome told (λ found. found ≡ Ok (as_settings settings))
-SetsUp (Err status.Done) told = ⊥
-SetsUp (Err status.Usage) told = ⊥
-SetsUp (Err (status.TraceFault line kind)) told = ⊥
 SetsUp (Err (status.SettingsFault kind)) told = IfSome told (λ found. found ≡ Err kind)
 SetsUp (Err status.ReadFault) told = Unit {0}
-SetsUp (Err status.WriteFault) told = ⊥
 SetsUp (Err status.NoMemory) told = Unit {0}
-SetsUp (Err status.TraceTooLong) told = ⊥
+SetsUp (Err answer) told = ⊥
 
 abbrev pub settings_list : Option (List ℕ) → List (List ℕ)
 settings_list None = []
@@ -34,38 +29,25 @@ settings_list (Some name) = name ∷ []
 
 abbrev pub SetUpAsks : Option (List ℕ) → Result Settings Status → List Asked → List Asked → Type 0
 SetUpAsks settings (Ok it) old new = new ≡ old ++ map begun_name (settings_list settings)
-SetUpAsks settings (Err status.Done) old new = ⊥
-SetUpAsks settings (Err status.Usage) old new = ⊥
-SetUpAsks settings (Err (status.TraceFault line kind)) old new = ⊥
-SetUpAsks None (Err (status.SettingsFault kind)) old new = ⊥
-SetUpAsks (Some name) (Err (status.SettingsFault kind)) old new = new ≡ old ++ begun_name name ∷ []
+SetUpAsks settings (Err (status.SettingsFault kind)) old new = BeganSettings settings old new
 SetUpAsks settings (Err status.ReadFault) old new = AskedNext (settings_list settings) old new
-SetUpAsks settings (Err status.WriteFault) old new = ⊥
 SetUpAsks settings (Err status.NoMemory) old new = BeganSome (settings_list settings) old new
-SetUpAsks settings (Err status.TraceTooLong) old new = ⊥
+SetUpAsks settings (Err answer) old new = ⊥
 
 -- running a trace asks for its name once
 abbrev pub TraceAsks : List ℕ → Status → List Asked → List Asked → Type 0
-TraceAsks trace status.Done old new = new ≡ old ++ begun_name trace ∷ []
 TraceAsks trace status.Usage old new = ⊥
-TraceAsks trace (status.TraceFault line kind) old new = new ≡ old ++ begun_name trace ∷ []
 TraceAsks trace (status.SettingsFault kind) old new = ⊥
 TraceAsks trace status.ReadFault old new = (begun : Bool) × (new ≡ old ++ record { name = trace; begun = begun } ∷ [])
-TraceAsks trace status.WriteFault old new = new ≡ old ++ begun_name trace ∷ []
 TraceAsks trace status.NoMemory old new = (new ≡ old) ⊎ (new ≡ old ++ begun_name trace ∷ [])
-TraceAsks trace status.TraceTooLong old new = new ≡ old ++ begun_name trace ∷ []
+TraceAsks trace answer old new = new ≡ old ++ begun_name trace ∷ []
 
 -- the settings of some bytes, or their fault; want of memory is free
 abbrev pub Settles : Result Settings Status → Result plain.Settings SettingsFault → Type 0
 Settles (Ok settings) found = found ≡ Ok (as_settings settings)
-Settles (Err status.Done) found = ⊥
-Settles (Err status.Usage) found = ⊥
-Settles (Err (status.TraceFault line kind)) found = ⊥
 Settles (Err (status.SettingsFault kind)) found = found ≡ Err kind
-Settles (Err status.ReadFault) found = ⊥
-Settles (Err status.WriteFault) found = ⊥
 Settles (Err status.NoMemory) found = Unit {0}
-Settles (Err status.TraceTooLong) found = ⊥
+Settles (Err answer) found = ⊥
 
 -- what the lines of a trace give under a task, or those of its front where more was cut off
 abbrev pub given_lines : Setup → List Mind → Task → Bool → List ℕ → Played

@@ -1,9 +1,9 @@
 -- The code and the text of each status.
 use Rattle.std.specs.Prelude.{ℕ, ◌++◌, List, [], codes, decimal}
-use Rattle.edit_model.specs.declared.faults.SettingsFault.{SettingsFault}
-use Rattle.edit_model.specs.declared.faults.SettingsFault.TheVariants as setting
-use Rattle.edit_model.specs.declared.faults.TraceFault.{TraceFault}
-use Rattle.edit_model.specs.declared.faults.TraceFault.TheVariants as fault
+use Rattle.trace_model.specs.declared.faults.SettingsFault.{SettingsFault}
+use Rattle.trace_model.specs.declared.faults.SettingsFault.TheVariants as setting
+use Rattle.trace_model.specs.declared.faults.TraceFault.{TraceFault}
+use Rattle.trace_model.specs.declared.faults.TraceFault.TheVariants as fault
 use Rattle.replay_cli.specs.declared.status.Status.{Status}
 use Rattle.replay_cli.specs.declared.status.Status.TheVariants as status
 

@@ -1,16 +1,31 @@
 -- One line of a run.
-use Rattle.std.specs.Prelude.{ℕ, ◌≡◌, ◌+◌, ◌++◌, Bool, true, false, List, [], ◌∷◌, take, Option, Some, None, Result, Ok, Err}
+use Rattle.std.specs.Prelude.{ℕ, ◌≡◌, ◌+◌, ◌++◌, Bool, true, false, List, [], ◌∷◌, take, if◌then◌else◌, Option, Some, None, Result, Ok, Err}
 use Rattle.std.specs.List.{concat}
 use Rattle.edit_model.specs.Machine.{Setup}
 use Rattle.edit_model.specs.Minds.{Mind}
-use Rattle.edit_model.specs.Output.{Played, Session, run_lines, check_lines, ended, overrun, checked, overrun_check}
-use Rattle.edit_model.specs.Lines.{open_line}
+use Rattle.trace_model.specs.Output as plain
+use Rattle.trace_model.specs.Output.{Played, Session, blank, command, faulty, run_lines, check_lines, ended, overrun, checked, overrun_check}
+use Rattle.trace_model.specs.TraceLines.{trace_lines, ended_lines, open_line}
 use Rattle.replay_io.specs.Outside.{with_more}
+use Rattle.replay_cli.specs.declared.lines.LineKind.{LineKind}
+use Rattle.replay_cli.specs.declared.lines.LineKind.TheVariants.{Blank, Command, Faulty}
 use Rattle.replay_cli.specs.declared.player.LineOutcome.{LineOutcome}
 use Rattle.replay_cli.specs.declared.player.LineOutcome.TheVariants.{Next, Stop}
 use Rattle.replay_cli.specs.declared.status.Status.{Status}
 use Rattle.replay_cli.specs.declared.status.Status.TheVariants as status
-use Rattle.replay_cli.specs.Runs.{Writes, Keeps}
+use Rattle.replay_cli.specs.Runs.{Ends}
+
+-- ---- the lines
+
+-- the kind that a line was found to be
+abbrev pub kind_seen : LineKind → plain.LineKind
+kind_seen Blank = blank
+kind_seen (Command asked) = command asked
+kind_seen (Faulty it) = faulty it
+
+-- the lines of these bytes, or those alone whose end stands in them, where more was cut off
+abbrev pub lines_in : Bool → List ℕ → List (List ℕ)
+lines_in is_cut bytes = if is_cut then ended_lines bytes else trace_lines bytes
 
 -- what stands behind the lines of a trace, or of the front of one that was cut off
 abbrev pub close_of : Bool → List ℕ → ℕ → Session → Played
@@ -21,6 +36,8 @@ close_of false trace = ended
 abbrev pub close_check : List Mind → Bool → List ℕ → ℕ → ℕ → Played
 close_check minds true trace = overrun_check minds (open_line trace)
 close_check minds false trace = checked minds
+
+-- ---- one line
 
 -- the bytes of several commands in front
 abbrev pub behind_all : List (List ℕ) → Played → Played
@@ -37,23 +54,18 @@ abbrev pub LineGives : Setup → ℕ → Session → List ℕ → Session → Li
 LineGives r number session line after Next old new = (close : ℕ → Session → Played) (lines : List (List ℕ)) →
     Reached (run_lines r close number session (line ∷ lines)) (run_lines r close (number + 1) after lines) old new
 LineGives r number session line after (Stop answer) old new = (close : ℕ → Session → Played) (lines : List (List ℕ)) →
-    Writes (run_lines r close number session (line ∷ lines)) answer old new × Keeps (run_lines r close number session (line ∷ lines)) answer after.minds
+    Ends (run_lines r close number session (line ∷ lines)) answer old new after.minds
 
 -- a command's bytes were written, and what stands is what stands behind it, or the run has ended with a prefix of them
 abbrev pub CommandGives : List ℕ → Session → Session → LineOutcome → Option (List ℕ) → Option (List ℕ) → Type 0
 CommandGives bytes behind after Next old new = (after ≡ behind) × (new ≡ with_more old bytes)
-CommandGives bytes behind after (Stop status.Done) old new = ⊥
-CommandGives bytes behind after (Stop status.Usage) old new = ⊥
-CommandGives bytes behind after (Stop (status.TraceFault line kind)) old new = ⊥
-CommandGives bytes behind after (Stop (status.SettingsFault kind)) old new = ⊥
-CommandGives bytes behind after (Stop status.ReadFault) old new = ⊥
 CommandGives bytes behind after (Stop status.WriteFault) old new = (count : ℕ) × (new ≡ with_more old (take count bytes))
 CommandGives bytes behind after (Stop status.NoMemory) old new = new ≡ old
-CommandGives bytes behind after (Stop status.TraceTooLong) old new = ⊥
+CommandGives bytes behind after (Stop answer) old new = ⊥
 
 -- a line that is read and not run holds so many commands, whatever lines follow it, or ends the reading, with nothing written
 abbrev pub CheckGives : ℕ → List ℕ → Result ℕ Status → Type 0
 CheckGives number line (Ok more) = (minds : List Mind) (close : ℕ → ℕ → Played) (count : ℕ) (lines : List (List ℕ)) →
     check_lines minds close number count (line ∷ lines) ≡ check_lines minds close (number + 1) (count + more) lines
 CheckGives number line (Err answer) = (minds : List Mind) (close : ℕ → ℕ → Played) (count : ℕ) (lines : List (List ℕ)) (known : Option (List ℕ)) →
-    Writes (check_lines minds close number count (line ∷ lines)) answer known known × Keeps (check_lines minds close number count (line ∷ lines)) answer minds
+    Ends (check_lines minds close number count (line ∷ lines)) answer known known minds

@@ -3,30 +3,27 @@
 ghost use Rattle.std.specs.Prelude.{ℕ, ◌≡◌, ◌≢◌, ◌≤◌, true, false, List, length, IfOk};
 ghost use Rattle.edit_base.specs.declared.bounds.TheConstants.Limits.{TRACE_BYTES};
 ghost use Rattle.edit_model.specs.Minds.{Mind};
-ghost use Rattle.edit_model.specs.Output.{check_lines, checked};
+ghost use Rattle.trace_model.specs.Output.{check_lines, checked};
 ghost use Rattle.replay_io.specs.Outside.{Rose};
-ghost use Rattle.replay_cli.specs.Lines.{lines_in};
-ghost use Rattle.replay_cli.specs.Runs.{Writes, Keeps};
-ghost use Rattle.replay_cli.specs.Steps.{CheckGives, close_check};
+ghost use Rattle.replay_cli.specs.Runs.{Ends};
+ghost use Rattle.replay_cli.specs.Steps.{CheckGives, close_check, lines_in};
 
-use crate::lines::{TraceLine, next_line, read_line};
+use crate::lines::{LineKind, line_kind, next_line};
 use crate::player::stop_at;
 use crate::status::Status;
 use edit_base::NoMemory;
-use edit_model::Reply;
 use replay_io::{Sink, write_all_of};
 use reply_text::print_reply;
 use std::alloc::Global;
+use trace_model::Reply;
 
 /// Reads the lines of a trace, or those of its first bytes where more was cut off, and writes how many commands there
 /// are. No watcher is told of anything, so it speaks of any minds that a shelf may have.
 pub fn check_trace<K: Sink>(alloc: Global, trace: &[u8], is_cut: bool, sink: &mut K) -> Status
     requires { length trace.now ≤ TRACE_BYTES }
-    ensures writes { (minds : List Mind) →
-        Writes (check_lines minds (close_check minds is_cut trace.now) 1 0 (lines_in is_cut trace.now)) result
-        (K.written sink.old) (K.written sink.new) }
-    ensures keeps { (minds : List Mind) →
-        Keeps (check_lines minds (close_check minds is_cut trace.now) 1 0 (lines_in is_cut trace.now)) result minds }
+    ensures ends { (minds : List Mind) →
+        Ends (check_lines minds (close_check minds is_cut trace.now) 1 0 (lines_in is_cut trace.now)) result
+        (K.written sink.old) (K.written sink.new) minds }
     ensures whole { result ≡ Status.Done → is_cut ≡ false }
     ensures cut { result ≡ Status.TraceTooLong → is_cut ≡ true }
     ensures failed { result ≡ Status.WriteFault → Rose (K.faults sink.old) (K.faults sink.new) }
@@ -59,19 +56,18 @@ fn count_of(alloc: Global, number: u32, line: &[u8]) -> Result<u32, Status>
     ensures undone { result ≢ Err Status.Done }
     ensures uncut { result ≢ Err Status.TraceTooLong }
 {
-    match read_line(alloc, line) {
+    match line_kind(alloc, line) {
         Err(NoMemory) => Err(Status::NoMemory),
-        Ok(TraceLine::Blank) => Ok(0),
-        Ok(TraceLine::Command(_)) => Ok(1),
-        Ok(TraceLine::Faulty(kind)) => Err(Status::TraceFault { line: number, kind }),
+        Ok(LineKind::Blank) => Ok(0),
+        Ok(LineKind::Command(_)) => Ok(1),
+        Ok(LineKind::Faulty(kind)) => Err(Status::TraceFault { line: number, kind }),
     }
 }
 
 // Writes how many commands there are.
 fn write_count<K: Sink>(alloc: Global, count: u32, sink: &mut K) -> Status
-    ensures writes { (minds : List Mind) (number : ℕ) →
-        Writes (checked minds number count) result (K.written sink.old) (K.written sink.new) }
-    ensures keeps { (minds : List Mind) (number : ℕ) → Keeps (checked minds number count) result minds }
+    ensures ends { (minds : List Mind) (number : ℕ) →
+        Ends (checked minds number count) result (K.written sink.old) (K.written sink.new) minds }
     ensures uncut { result ≢ Status.TraceTooLong }
     ensures failed { result ≡ Status.WriteFault → Rose (K.faults sink.old) (K.faults sink.new) }
     ensures quiet { result ≢ Status.WriteFault → K.faults sink.new ≡ K.faults sink.old }

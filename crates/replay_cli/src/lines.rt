@@ -2,17 +2,18 @@
 
 ghost use Rattle.std.specs.Prelude.{◌≡◌, ◌<◌, [], ◌∷◌, ◌==◌, true, length, position, IfOk, IfSome, MatchOption};
 ghost use Rattle.std.specs.List.{list_all};
-ghost use Rattle.edit_model.specs.Lines.{open_line, is_blank, is_blank_byte};
-ghost use Rattle.edit_model.specs.Output.{line_of};
-ghost use Rattle.replay_cli.specs.Lines.{line_from, lines_in};
+ghost use Rattle.trace_model.specs.TraceLines.{open_line, is_blank, is_blank_byte};
+ghost use Rattle.trace_model.specs.Output.{line_kind as kind_of_line};
+ghost use Rattle.replay_cli.specs.Steps.{kind_seen, lines_in};
 
 use edit_base::{Limits, NoMemory};
-use edit_model::{Command, TraceFault};
 use std::alloc::Global;
+use trace_model::{Command, TraceFault};
+use trace_words::read_line;
 
 /// What a line of a trace is.
 #[derive(Drop)]
-pub enum TraceLine {
+pub enum LineKind {
     /// A line that is counted and skipped.
     Blank,
     /// A command.
@@ -65,16 +66,16 @@ fn is_space(byte: u8) -> bool
 }
 
 /// What a line without its `\n` is.
-#[tactic(auto, unfolding(edit_model::specs::Output::line_of))]
-pub fn read_line(alloc: Global, line: &[u8]) -> Result<TraceLine, NoMemory>
-    ensures { IfOk result (λ it. line_from it ≡ line_of line.now) }
+#[tactic(auto, unfolding(trace_model::specs::Output::line_kind))]
+pub fn line_kind(alloc: Global, line: &[u8]) -> Result<LineKind, NoMemory>
+    ensures { IfOk result (λ it. kind_seen it ≡ kind_of_line line.now) }
 {
     if is_blank_line(line) {
-        return Ok(TraceLine::Blank);
+        return Ok(LineKind::Blank);
     }
-    match trace_words::read_line(alloc, line) {
-        Ok(command) => Ok(TraceLine::Command(command)),
+    match read_line(alloc, line) {
+        Ok(command) => Ok(LineKind::Command(command)),
         Err(TraceFault::NoMemory) => Err(NoMemory),
-        Err(fault) => Ok(TraceLine::Faulty(fault)),
+        Err(fault) => Ok(LineKind::Faulty(fault)),
     }
 }

@@ -1,9 +1,10 @@
 //! Replays a recorded trace of edits over an editable text, and prints what each command did and the text at the end.
 #![tactic(auto)]
 
-ghost use Rattle.std.specs.Prelude.{◌≡◌, ◌≢◌};
+ghost use Rattle.std.specs.Prelude.{◌≡◌, ◌≢◌, ◌↔◌, map, None, IfSome, string_bytes};
 ghost use Rattle.std.specs.IoError.{error_kind};
 ghost use Rattle.std.specs.Process.{exit_status};
+ghost use Rattle.replay_cli.specs.Runs.{requested_by, IsSet};
 ghost use Rattle.replay_cli.specs.Statuses.{code_of};
 
 mod checker;
@@ -15,7 +16,7 @@ mod shelf;
 mod status;
 
 pub use checker::check_trace;
-pub use lines::{TraceLine, is_blank_line, next_line, read_line};
+pub use lines::{LineKind, is_blank_line, line_kind, next_line};
 pub use player::{LineOutcome, play_lines, run_line, stop_at};
 use replay_io::{FileStore, OutSink};
 pub use requests::{Request, Task, request_of};
@@ -56,8 +57,12 @@ fn unread_words(error: &io::Error) -> Status
     }
 }
 
-// The program over the real files and standard output.
-fn replay(rt: &HostRuntime, words: &[String]) -> Status {
+// The program over the real files and standard output, of whose bytes no clause can tell. With the built-in settings
+// there is no fault of the settings.
+fn replay(rt: &HostRuntime, words: &[String]) -> Status
+    ensures usage { (result ≡ Status.Usage) ↔ (requested_by (map string_bytes words.now) ≡ None) }
+    ensures built_in { IfSome (requested_by (map string_bytes words.now)) (λ it. it.settings ≡ None → IsSet result) }
+{
     let mut files = FileStore::new(rt, rt.alloc());
     let mut output = OutSink::new(io::writer(rt));
     run_on_blank_shelf(rt.alloc(), words, &mut files, &mut output)

@@ -3,23 +3,22 @@
 ghost use Rattle.std.specs.Prelude.{◌≡◌, ◌≢◌, ◌≤◌, true, false, List, Option, length, map, ℕ};
 ghost use Rattle.edit_base.specs.declared.bounds.TheConstants.Limits.{TRACE_BYTES};
 ghost use Rattle.edit_model.specs.Minds.{Mind};
-ghost use Rattle.edit_model.specs.Reading.{IsFitting};
-ghost use Rattle.edit_model.specs.Output.{command_bytes, session_behind, run_lines, ended, stopped, cut_off, too_long};
+ghost use Rattle.trace_model.specs.Reading.{IsFitting};
+ghost use Rattle.trace_model.specs.Output.{command_bytes, session_behind, run_lines, ended, stopped, cut_off, too_long};
 ghost use Rattle.replay_io.specs.Outside.{Rose};
 ghost use Rattle.watcher_rounds.specs.Rounds.{AreOnShelf};
 ghost use Rattle.editor_core.specs.Editors.{session_with};
-ghost use Rattle.replay_cli.specs.Runs.{Writes, Keeps};
-ghost use Rattle.replay_cli.specs.Steps.{LineGives, CommandGives, close_of};
-ghost use Rattle.replay_cli.specs.Lines.{lines_in};
+ghost use Rattle.replay_cli.specs.Runs.{Ends};
+ghost use Rattle.replay_cli.specs.Steps.{LineGives, CommandGives, close_of, lines_in};
 
-use crate::lines::{TraceLine, next_line, read_line};
+use crate::lines::{LineKind, line_kind, next_line};
 use crate::status::Status;
 use edit_base::{Limits, NoMemory, Steps};
-use edit_model::{Command, TraceFault};
 use editor_core::Editor;
 use replay_io::{Sink, write_all_of};
 use std::alloc::Global;
 use std::sync::ledger::Ledger;
+use trace_model::{Command, TraceFault};
 use watcher_api::Watcher;
 
 /// What became of a line.
@@ -45,12 +44,9 @@ pub fn play_lines<K: Sink, L: Ledger>(
 ) -> Status
     requires within { length trace.now ≤ TRACE_BYTES }
     requires slots { AreOnShelf editor.old.setup.slots (map (λ b. mind b) shelf.old.items) }
-    ensures writes { Writes (run_lines editor.old.setup (close_of is_cut trace.now) 1
+    ensures ends { Ends (run_lines editor.old.setup (close_of is_cut trace.now) 1
         (session_with editor.old (map (λ b. mind b) shelf.old.items)) (lines_in is_cut trace.now)) result
-        (K.written sink.old) (K.written sink.new) }
-    ensures keeps { Keeps (run_lines editor.old.setup (close_of is_cut trace.now) 1
-        (session_with editor.old (map (λ b. mind b) shelf.old.items)) (lines_in is_cut trace.now)) result
-        (map (λ b. mind b) shelf.new.items) }
+        (K.written sink.old) (K.written sink.new) (map (λ b. mind b) shelf.new.items) }
     ensures whole { result ≡ Status.Done → is_cut ≡ false }
     ensures cut { result ≡ Status.TraceTooLong → is_cut ≡ true }
     ensures failed { result ≡ Status.WriteFault → Rose (K.faults sink.old) (K.faults sink.new) }
@@ -77,9 +73,8 @@ pub fn play_lines<K: Sink, L: Ledger>(
 
 /// How a trace over its limit ends behind its lines: these bytes stand behind the last of them.
 pub fn stop_at(number: u32, tail: &[u8]) -> Status
-    ensures stops { (minds : List Mind) (known : Option (List ℕ))
-        → Writes (stopped (cut_off tail.now too_long number) minds) result known known }
-    ensures keeps { (minds : List Mind) → Keeps (stopped (cut_off tail.now too_long number) minds) result minds }
+    ensures ends { (minds : List Mind) (known : Option (List ℕ))
+        → Ends (stopped (cut_off tail.now too_long number) minds) result known known minds }
     ensures undone { result ≢ Status.Done }
     ensures unfailed { result ≢ Status.WriteFault }
     ensures remembered { result ≢ Status.NoMemory }
@@ -117,11 +112,11 @@ pub fn run_line<K: Sink, L: Ledger>(
     ensures quiet { result ≢ LineOutcome.Stop Status.WriteFault → K.faults sink.new ≡ K.faults sink.old }
     ensures counts { K.faults sink.old ≤ K.faults sink.new }
 {
-    match read_line(alloc, line) {
+    match line_kind(alloc, line) {
         Err(NoMemory) => LineOutcome::Stop(Status::NoMemory),
-        Ok(TraceLine::Blank) => LineOutcome::Next,
-        Ok(TraceLine::Faulty(kind)) => LineOutcome::Stop(Status::TraceFault { line: number, kind }),
-        Ok(TraceLine::Command(command)) => {
+        Ok(LineKind::Blank) => LineOutcome::Next,
+        Ok(LineKind::Faulty(kind)) => LineOutcome::Stop(Status::TraceFault { line: number, kind }),
+        Ok(LineKind::Command(command)) => {
             write_command(number, &command, editor, shelf, out, sink, steps)
         }
     }
@@ -164,10 +159,8 @@ fn write_command<K: Sink, L: Ledger>(
 
 // Writes the end block.
 fn finish<K: Sink>(editor: &mut Editor, out: &mut Vec<u8>, sink: &mut K) -> Status
-    ensures writes { (number : ℕ) (minds : List Mind) → Writes (ended number (session_with editor.old minds)) result
-        (K.written sink.old) (K.written sink.new) }
-    ensures keeps { (number : ℕ) (minds : List Mind)
-        → Keeps (ended number (session_with editor.old minds)) result minds }
+    ensures ends { (number : ℕ) (minds : List Mind) → Ends (ended number (session_with editor.old minds)) result
+        (K.written sink.old) (K.written sink.new) minds }
     ensures uncut { result ≢ Status.TraceTooLong }
     ensures failed { result ≡ Status.WriteFault → Rose (K.faults sink.old) (K.faults sink.new) }
     ensures quiet { result ≢ Status.WriteFault → K.faults sink.new ≡ K.faults sink.old }

@@ -1,28 +1,28 @@
 //! The top call: from words, a store, a sink and a shelf to a status.
 
 ghost use Rattle.settings_reader.specs.Seen.{as_settings};
-ghost use Rattle.std.specs.Prelude.{◌≡◌, ◌≢◌, ◌≤◌, ◌<◌, ◌⊎◌, ◌↔◌, map, true, false, length, List, ℕ, Option, Some, None, IfOk, IfSome, string_bytes};
+ghost use Rattle.std.specs.Prelude.{◌≡◌, ◌≢◌, ◌≤◌, ◌<◌, ◌⊎◌, ◌↔◌, map, true, false, length, List, ℕ, Option, Some, None, Ok, IfOk, string_bytes};
 ghost use Rattle.std.specs.Option.{option_map};
 ghost use Rattle.edit_base.specs.declared.bounds.TheConstants.Limits.{TRACE_BYTES, DEPTH};
 ghost use Rattle.replay_io.specs.Outside.{Rose};
 ghost use Rattle.watcher_rounds.specs.Rounds.{AreOnShelf};
-ghost use Rattle.replay_cli.specs.Runs.{requested_by, given, AsksFor, Leaves, LeavesFor, LeavesTrace, Keeps, KeepsFor, KeepsMinds, IsComplete, IsSet, told_settings, told_setup, Writes};
+ghost use Rattle.replay_cli.specs.Runs.{requested_by, AsksFor, told, told_by, told_settings, Ends, Leaves, IsComplete};
 ghost use Rattle.replay_cli.specs.SetUps.{SetsUp, SetUpAsks, TraceAsks, Settles, given_lines};
-ghost use Rattle.edit_model.specs.Output.{setup};
-ghost use Rattle.edit_model.specs.Settings.{FitsLimits, read_settings as read_settings_of};
+ghost use Rattle.trace_model.specs.Output.{setup};
+ghost use Rattle.trace_model.specs.Settings.{FitsLimits, read_settings as read_settings_of};
 
 use crate::checker::check_trace;
 use crate::player::play_lines;
 use crate::requests::{Task, request_of};
 use crate::status::Status;
 use edit_base::{Limits, NoMemory, Steps};
-use edit_model::SettingsFault;
 use editor_core::Editor;
 use replay_io::{ReadEnd, ReadFault, Sink, Store, read_all};
 use settings_reader::{Settings, built_in, load_shelf, read_settings};
 use std::alloc::Global;
 use std::marker::Brand;
 use std::sync::ledger::{Blank, Ledger};
+use trace_model::SettingsFault;
 use watcher_api::{Slots, Watcher};
 
 /// Runs the program on its words, its own name not among them. Both tasks read the settings of the first of these names
@@ -38,16 +38,16 @@ pub fn run<S: Store, K: Sink>(
     sink: &mut K,
     shelf: &mut Vec<Box<dyn Watcher>>,
 ) -> Status
-    // The words alone decide this status, and then nothing is asked for and nothing written.
+    // The words alone decide this status, and then nothing is written and no watcher loaded.
     ensures usage { (result ≡ Status.Usage) ↔ (requested_by (map string_bytes words.now) ≡ None) }
+    ensures unwritten { result ≡ Status.Usage → K.written sink.new ≡ K.written sink.old }
+    ensures unloaded { result ≡ Status.Usage
+        → map (λ b. mind b) shelf.new.items ≡ map (λ b. mind b) shelf.old.items }
 
-    // Where the store tells the settings and the trace: what was written, and what is left of the trace.
-    ensures leaves { LeavesFor (requested_by (map string_bytes words.now)) (S.stands store.old)
-        (map (λ b. mind b) shelf.old.items) result (S.left store.new) (K.written sink.old) (K.written sink.new) }
-
-    // The minds of the shelf then. Where the words ask for nothing they are as before.
-    ensures minds { KeepsFor (requested_by (map string_bytes words.now)) (S.stands store.old)
-        (map (λ b. mind b) shelf.old.items) result (map (λ b. mind b) shelf.new.items) }
+    // By what the store tells: what is left of the trace, what was written, and the minds of the shelf then.
+    ensures leaves { Leaves (told (requested_by (map string_bytes words.now)) (S.stands store.old)
+        (map (λ b. mind b) shelf.old.items)) result
+        (S.left store.new) (K.written sink.old) (K.written sink.new) (map (λ b. mind b) shelf.new.items) }
 
     // The causes of faults, that no fault is swallowed, and the names asked for.
     ensures read_fault { result ≡ Status.ReadFault → Rose (S.faults store.old) (S.faults store.new) }
@@ -60,8 +60,8 @@ pub fn run<S: Store, K: Sink>(
 
     // Where the settings have a reading and their watchers are loaded, every line is a command and no device fails, a
     // run is done or wants memory.
-    ensures complete { IsComplete (requested_by (map string_bytes words.now)) (S.stands store.old)
-        (map (λ b. mind b) shelf.old.items)
+    ensures complete { IsComplete (told (requested_by (map string_bytes words.now)) (S.stands store.old)
+        (map (λ b. mind b) shelf.old.items))
         → ¬ Rose (S.faults store.old) (S.faults store.new) → ¬ Rose (K.faults sink.old) (K.faults sink.new)
         → (result ≡ Status.Done) ⊎ (result ≡ Status.NoMemory) }
 {
@@ -89,12 +89,12 @@ fn run_request<S: Store, K: Sink>(
     sink: &mut K,
     shelf: &mut Vec<Box<dyn Watcher>>,
 ) -> Status
-    ensures leaves { Leaves task (told_setup (option_map (λ name. name.now) settings.entry) (S.stands store.old)
-        (map (λ b. mind b) shelf.old.items))
-        (S.stands store.old trace.now) result (S.left store.new) (K.written sink.old) (K.written sink.new) }
-    ensures minds { KeepsMinds task (told_setup (option_map (λ name. name.now) settings.entry) (S.stands store.old)
-        (map (λ b. mind b) shelf.old.items))
-        (S.stands store.old trace.now) result (map (λ b. mind b) shelf.new.items) }
+    ensures leaves { Leaves (told (Some (record {
+      task = task;
+      settings = option_map (λ name. name.now) settings.entry;
+      trace = trace.now;
+    })) (S.stands store.old) (map (λ b. mind b) shelf.old.items)) result
+        (S.left store.new) (K.written sink.old) (K.written sink.new) (map (λ b. mind b) shelf.new.items) }
     ensures read_fault { result ≡ Status.ReadFault → Rose (S.faults store.old) (S.faults store.new) }
     ensures quiet_store { result ≢ Status.ReadFault → S.faults store.new ≡ S.faults store.old }
     ensures unread { result ≡ Status.ReadFault → K.written sink.new ≡ K.written sink.old }
@@ -189,13 +189,9 @@ fn run_trace<S: Store, K: Sink>(
 ) -> Status
     requires depth { settings.depth ≤ DEPTH }
     requires on_shelf { AreOnShelf slots.items (map (λ b. mind b) shelf.old.items) }
-    ensures leaves { IfSome (S.stands store.old trace.now)
-        (λ bytes. LeavesTrace (setup (as_settings settings) slots.items) (map (λ b. mind b) shelf.old.items)
-        task bytes result (S.left store.new) (K.written sink.old) (K.written sink.new)) }
-    ensures minds { IfSome (S.stands store.old trace.now)
-        (λ bytes. Keeps (given (setup (as_settings settings) slots.items) (map (λ b. mind b) shelf.old.items)
-        task bytes) result (map (λ b. mind b) shelf.new.items)) }
-    ensures set { IsSet result }
+    ensures leaves { Leaves (told_by task (map (λ b. mind b) shelf.old.items)
+        (Ok (setup (as_settings settings) slots.items)) (S.stands store.old trace.now)) result
+        (S.left store.new) (K.written sink.old) (K.written sink.new) (map (λ b. mind b) shelf.new.items) }
     ensures read_fault { result ≡ Status.ReadFault → Rose (S.faults store.old) (S.faults store.new) }
     ensures quiet_store { result ≢ Status.ReadFault → S.faults store.new ≡ S.faults store.old }
     ensures unread { result ≡ Status.ReadFault → K.written sink.new ≡ K.written sink.old }
@@ -250,10 +246,9 @@ fn run_bytes<K: Sink>(
     requires within { length bytes.now ≤ TRACE_BYTES }
     requires depth { settings.depth ≤ DEPTH }
     requires on_shelf { AreOnShelf slots.items (map (λ b. mind b) shelf.old.items) }
-    ensures writes { Writes (given_lines (setup (as_settings settings) slots.items)
-        (map (λ b. mind b) shelf.old.items) task is_cut bytes.now) result (K.written sink.old) (K.written sink.new) }
-    ensures keeps { Keeps (given_lines (setup (as_settings settings) slots.items)
-        (map (λ b. mind b) shelf.old.items) task is_cut bytes.now) result (map (λ b. mind b) shelf.new.items) }
+    ensures ends { Ends (given_lines (setup (as_settings settings) slots.items)
+        (map (λ b. mind b) shelf.old.items) task is_cut bytes.now) result
+        (K.written sink.old) (K.written sink.new) (map (λ b. mind b) shelf.new.items) }
     ensures whole { result ≡ Status.Done → is_cut ≡ false }
     ensures cut { result ≡ Status.TraceTooLong → is_cut ≡ true }
     ensures failed { result ≡ Status.WriteFault → Rose (K.faults sink.old) (K.faults sink.new) }
@@ -285,11 +280,9 @@ fn play_counted<K: Sink, L: Ledger>(
     requires name { blank.name ≡ L.name }
     requires parts { blank.parts ≡ L.parts }
     requires some { 0 < blank.parts }
-    ensures writes { Writes (given_lines (setup (as_settings settings) slots.items)
-        (map (λ b. mind b) shelf.old.items) Task.Play is_cut bytes.now)
-        result (K.written sink.old) (K.written sink.new) }
-    ensures keeps { Keeps (given_lines (setup (as_settings settings) slots.items)
-        (map (λ b. mind b) shelf.old.items) Task.Play is_cut bytes.now) result (map (λ b. mind b) shelf.new.items) }
+    ensures ends { Ends (given_lines (setup (as_settings settings) slots.items)
+        (map (λ b. mind b) shelf.old.items) Task.Play is_cut bytes.now) result
+        (K.written sink.old) (K.written sink.new) (map (λ b. mind b) shelf.new.items) }
     ensures whole { result ≡ Status.Done → is_cut ≡ false }
     ensures cut { result ≡ Status.TraceTooLong → is_cut ≡ true }
     ensures failed { result ≡ Status.WriteFault → Rose (K.faults sink.old) (K.faults sink.new) }

@@ -4,8 +4,8 @@ ghost use Rattle.std.specs.Prelude.{◌≡◌, ◌≤◌, length};
 ghost use Rattle.replay_cli.specs.Statuses.{code_of, status_text, kind_text, setting_text};
 
 use arrayvec::ArrayString;
-use edit_model::{SettingsFault, TraceFault};
 use itoa::Buffer;
+use trace_model::{SettingsFault, TraceFault};
 
 /// How a run ended.
 #[derive(Clone, Copy, Debug, PartialEq, Eq)]

@@ -20,9 +20,9 @@ abbrev pub asked_of : AskedName → Asked
 asked_of kept = record { name = string_bytes kept.name; begun = kept.begun }
 
 -- the place of the first file of a name, or the number of files where none has it
-abbrev pub place_of : List ℕ → List FileBytes → ℕ
-place_of name [] = 0
-place_of name (file ∷ files) = if bytes_eq file.name name then 0 else place_of name files + 1
+abbrev pub file_place : List ℕ → List FileBytes → ℕ
+file_place name [] = 0
+file_place name (file ∷ files) = if bytes_eq file.name name then 0 else file_place name files + 1
 
 -- the bytes of the file at a place, and none behind the last file
 abbrev pub bytes_at : ℕ → List FileBytes → List ℕ
@@ -32,11 +32,11 @@ bytes_at (suc place) (file ∷ files) = bytes_at place files
 
 -- whether a file has the name
 abbrev pub is_there : List ℕ → List FileBytes → Bool
-is_there name files = nat_lt (place_of name files) (length files)
+is_there name files = nat_lt (file_place name files) (length files)
 
 -- the bytes of the first file of the name, and none where no file has it
 abbrev pub bytes_under : List ℕ → List FileBytes → List ℕ
-bytes_under name files = bytes_at (place_of name files) files
+bytes_under name files = bytes_at (file_place name files) files
 
 -- the files, the most bytes that a call hands out, the names asked for, and what is left of the file begun last
 pub record Stored : Type 0 where

@@ -1,7 +1,7 @@
 //! Files in memory, one of which is read.
 
 ghost use Rattle.std.specs.Prelude.{◌≡◌, ◌≤◌, map, min, length, take, OnOk, OnErr};
-ghost use Rattle.replay_io.specs.Stored.{file_of, place_of, bytes_at, is_there, unread, after_begin, after_refusal, handed, after_piece};
+ghost use Rattle.replay_io.specs.Stored.{file_of, file_place, bytes_at, is_there, unread, after_begin, after_refusal, handed, after_piece};
 
 use crate::asked::AskedNames;
 use edit_base::NoMemory;
@@ -65,7 +65,7 @@ impl StoredFiles {
     pub(crate) fn has(&self, name: &str) -> bool
         ensures { result ≡ is_there name.now self.now.files }
     {
-        place_of(&self.files, name) < self.files.len()
+        file_place(&self.files, name) < self.files.len()
     }
 
     // Begins the first file of a name; where none has it, nothing is left.
@@ -74,7 +74,7 @@ impl StoredFiles {
         ensures err { OnErr result (self.new ≡ self.old) }
     {
         self.asked.keep(name, true)?;
-        self.current = place_of(&self.files, name);
+        self.current = file_place(&self.files, name);
         self.at = 0;
         Ok(())
     }
@@ -103,8 +103,8 @@ impl StoredFiles {
 }
 
 // The place of the first file of a name, or the number of files where none has it.
-fn place_of(files: &[StoredFile], name: &str) -> usize
-    ensures { result ≡ place_of name.now (map file_of files.now) }
+fn file_place(files: &[StoredFile], name: &str) -> usize
+    ensures { result ≡ file_place name.now (map file_of files.now) }
 {
     for (place, file) in files.iter().enumerate() {
         if file.name.as_str() == name {

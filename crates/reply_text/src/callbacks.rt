@@ -2,7 +2,7 @@
 #![tactic(auto, using(crate::proofs::Appending::appending))]
 
 ghost use Rattle.std.specs.Prelude.{◌≡◌, ◌++◌, OnOk, OnErr, decimal};
-ghost use Rattle.edit_model.specs.Printed.{spaced, line_end, event_line, place_text, change_name, old_place_text, span_event_line};
+ghost use Rattle.trace_model.specs.Printed.{spaced, line_end, event_line, place_text, change_name, old_place_text, span_event_line};
 ghost use Rattle.reply_text.specs.Appended.{Extends};
 
 use crate::words::{push, push_number};

@@ -2,7 +2,7 @@
 #![tactic(auto, using(crate::proofs::Appending::appending))]
 
 ghost use Rattle.std.specs.Prelude.{◌≡◌, ◌++◌, OnOk, OnErr, codes, decimal};
-ghost use Rattle.edit_model.specs.Printed.{spaced, line_end, logged_text, signed_places, header_line, entry_line};
+ghost use Rattle.trace_model.specs.Printed.{spaced, line_end, logged_text, signed_places, header_line, entry_line};
 ghost use Rattle.reply_text.specs.Appended.{Extends};
 
 use crate::callbacks::{push_event, push_span_event};

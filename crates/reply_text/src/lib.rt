@@ -14,6 +14,3 @@ pub use entries::{print_entry, print_header};
 pub use replies::print_reply;
 pub use spans::print_span;
 pub use units::print_units;
-
-#[cfg(test)]
-mod tests;

@@ -3,13 +3,13 @@
 #![tactic(auto, using(crate::proofs::Appending::appending))]
 
 ghost use Rattle.std.specs.Prelude.{◌≡◌, ◌++◌, OnOk, OnErr, codes};
-ghost use Rattle.edit_model.specs.Printed.{line_end, signed_places, reply_text};
+ghost use Rattle.trace_model.specs.Printed.{line_end, signed_places, reply_text};
 ghost use Rattle.reply_text.specs.Appended.{Extends};
 
 use crate::verdicts::push_ending;
 use crate::words::{push, push_numbered, push_signed_places};
 use edit_base::NoMemory;
-use edit_model::Reply;
+use trace_model::Reply;
 
 /// Appends the line of a reply. Without memory a part of the line may stand in `out`.
 pub fn print_reply(reply: &Reply, out: &mut Vec<u8>) -> Result<(), NoMemory>

@@ -3,7 +3,7 @@
 
 ghost use Rattle.std.specs.Prelude.{◌≡◌, ◌++◌, OnOk, OnErr, codes, decimal};
 ghost use Rattle.edit_model.specs.Rows.{span_of};
-ghost use Rattle.edit_model.specs.Printed.{spaced, what_text, span_line};
+ghost use Rattle.trace_model.specs.Printed.{spaced, what_text, span_line};
 ghost use Rattle.reply_text.specs.Appended.{Extends};
 
 use crate::words::{push, push_number, push_word};

@@ -3,7 +3,7 @@
 
 ghost use Rattle.std.specs.Prelude.{◌≡◌, ◌<◌, ◌++◌, OnOk, OnErr, codes};
 ghost use Rattle.std.specs.List.{flat_map};
-ghost use Rattle.edit_model.specs.Printed.{spaced, hex_digit, escaped, unit_text, text_line};
+ghost use Rattle.trace_model.specs.Printed.{spaced, hex_digit, escaped, unit_text, text_line};
 ghost use Rattle.reply_text.specs.Appended.{Extends};
 
 use crate::words::{push, push_count};

@@ -2,7 +2,7 @@
 #![tactic(auto, using(crate::proofs::Appending::appending))]
 
 ghost use Rattle.std.specs.Prelude.{◌≡◌, ◌++◌, OnOk, OnErr, decimal};
-ghost use Rattle.edit_model.specs.Printed.{spaced, line_end, refusal_name, has_number, refusal_text, logged_text};
+ghost use Rattle.trace_model.specs.Printed.{spaced, line_end, refusal_name, has_number, refusal_text, logged_text};
 ghost use Rattle.reply_text.specs.Appended.{Extends};
 
 use crate::words::{push, push_number, push_word};

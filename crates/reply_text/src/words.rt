@@ -3,7 +3,7 @@
 
 ghost use Rattle.std.specs.Prelude.{◌≡◌, ◌++◌, OnOk, OnErr, decimal};
 ghost use Rattle.std.specs.Fmt.{signed_decimal};
-ghost use Rattle.edit_model.specs.Printed.{spaced, line_end, signed_places};
+ghost use Rattle.trace_model.specs.Printed.{spaced, line_end, signed_places};
 ghost use Rattle.reply_text.specs.Appended.{Extends};
 
 use edit_base::NoMemory;

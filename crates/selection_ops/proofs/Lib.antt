@@ -1,2 +1,1 @@
 mod Taken
-pub mod Within

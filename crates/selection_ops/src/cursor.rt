@@ -1,7 +1,7 @@
 //! Where a cursor goes that counts from a replaced range.
 
 ghost use Rattle.std.specs.Prelude.{◌≡◌};
-ghost use Rattle.edit_model.specs.Items.{cursor_place};
+ghost use Rattle.trace_model.specs.Items.{cursor_place};
 
 /// The place of a cursor that counts from the range between `a` and `b`: from 1 on it counts from the range's end, 1
 /// being the end itself, and from 0 down it counts back from the range's start. The place may lie outside any text.

@@ -6,7 +6,4 @@ mod cursor;
 mod round;
 
 pub use cursor::cursor_place;
-pub use round::{halves_of, selected, selection_in, text_after, text_before};
-
-#[cfg(test)]
-mod tests;
+pub use round::{halves_of, selected, text_after, text_before};

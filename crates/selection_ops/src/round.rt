@@ -1,10 +1,9 @@
 //! The text round the selection. Without one, counting starts at the text's start.
 
-ghost use Rattle.std.specs.Prelude.{◌≡◌, IfOk, IfSome};
+ghost use Rattle.std.specs.Prelude.{◌≡◌, IfOk};
 ghost use Rattle.std.specs.Option.{option_map};
 ghost use Rattle.text_cut.specs.Halves.{joined};
-ghost use Rattle.edit_model.specs.Selection.{selection, text_before, text_after, selected};
-ghost use Rattle.selection_ops.specs.Places.{LiesIn};
+ghost use Rattle.edit_model.specs.Selection.{text_before, text_after, selected};
 
 use crate::copying::stretch;
 use edit_base::NoMemory;
@@ -20,20 +19,12 @@ pub fn halves_of(text: &SpannedText) -> Halves<'_>
     Halves { left, right }
 }
 
-/// The selection, where there is one: both its ends lie in the text.
-pub fn selection_in(text: &SpannedText) -> Option<(u32, u32)>
-    ensures selection { result ≡ selection text.now.state.spans }
-    ensures within { IfSome result (LiesIn text.now.state.units) }
-{
-    text.selection()
-}
-
 /// At most `count` units before the selection's lesser end.
 #[tactic(auto, unfolding(edit_model::specs::Selection::text_before))]
 pub fn text_before(alloc: Global, text: &SpannedText, count: u32) -> Result<Vec<u16>, NoMemory>
     ensures { IfOk result (λ units. units.items ≡ text_before text.now.state count) }
 {
-    let (a, b) = selection_in(text).unwrap_or((0, 0));
+    let (a, b) = text.selection().unwrap_or((0, 0));
     let to = a.min(b);
     stretch(alloc, &halves_of(text), to.saturating_sub(count), to)
 }
@@ -43,7 +34,7 @@ pub fn text_before(alloc: Global, text: &SpannedText, count: u32) -> Result<Vec<
 pub fn text_after(alloc: Global, text: &SpannedText, count: u32) -> Result<Vec<u16>, NoMemory>
     ensures { IfOk result (λ units. units.items ≡ text_after text.now.state count) }
 {
-    let (start, end) = selection_in(text).unwrap_or((0, 0));
+    let (start, end) = text.selection().unwrap_or((0, 0));
     let from = start.max(end);
     stretch(
         alloc,
@@ -58,7 +49,7 @@ pub fn text_after(alloc: Global, text: &SpannedText, count: u32) -> Result<Vec<u
 pub fn selected(alloc: Global, text: &SpannedText) -> Result<Option<Vec<u16>>, NoMemory>
     ensures { IfOk result (λ units. option_map (λ list. list.items) units ≡ selected text.now.state) }
 {
-    match selection_in(text) {
+    match text.selection() {
         Some((a, b)) if a != b => Ok(Some(stretch(alloc, &halves_of(text), a.min(b), a.max(b))?)),
         _ => Ok(None),
     }

@@ -5,7 +5,7 @@ use Rattle.std.proofs.lemmas.Str.{IsUtf8-from_is_utf8, is_utf8-from_IsUtf8}
 use Rattle.std.specs.Str.{IsUtf8, is_utf8}
 use Rattle.toml.specs.Data.{Members}
 use Rattle.toml.specs.Parse.{parse_document}
-use Rattle.edit_model.specs.Settings.{toml_of}
+use Rattle.trace_model.specs.Settings.{toml_of}
 
 pub toml_of-some : (bytes : List ℕ) (document : Members) → IsUtf8 bytes → parse_document bytes ≡ Some document → toml_of bytes ≡ Some document
 toml_of-some bytes document utf8 is = cond-true (is_utf8 bytes) (parse_document bytes) None (is_utf8-from_IsUtf8 bytes utf8) ∙ is

@@ -1,7 +1,7 @@
 -- The values of an array read one after the other.
 use Rattle.std.proofs.Common.{List, ◌++◌, Result, Ok}
-use Rattle.edit_model.specs.declared.faults.SettingsFault.{SettingsFault}
-use Rattle.edit_model.specs.Settings.{having}
+use Rattle.trace_model.specs.declared.faults.SettingsFault.{SettingsFault}
+use Rattle.trace_model.specs.Settings.{having}
 
 -- these and the others, or the fault of the others
 abbrev pub behind : {X : Type 0} → List X → Result (List X) SettingsFault → Result (List X) SettingsFault

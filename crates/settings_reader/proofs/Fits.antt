@@ -9,21 +9,21 @@ use Rattle.std.proofs.lemmas.Bool.Decides.{nat_tests}
 use Rattle.std.proofs.lemmas.List.Elements.{All-from_recursion}
 use Rattle.toml.specs.Data.{Data, Items, no_items, item, Members, get_member, as_integer, as_array, as_table}
 use Rattle.edit_base.specs.declared.bounds.TheConstants.Limits.{TEXT, WATCHERS, FILTERS, DEPTH, DEPTH_DEFAULT, RANGES, WIDTH}
-use Rattle.edit_model.specs.declared.faults.SettingsFault.{SettingsFault}
-use Rattle.edit_model.specs.declared.faults.SettingsFault.TheVariants as fault
+use Rattle.trace_model.specs.declared.faults.SettingsFault.{SettingsFault}
+use Rattle.trace_model.specs.declared.faults.SettingsFault.TheVariants as fault
 use Rattle.edit_model.specs.declared.filters.Filter.{Filter}
 use Rattle.edit_model.specs.declared.filters.Filter.TheVariants.{AsciiUpper, NoNewline}
 use Rattle.edit_model.specs.declared.filters.UnitRange.{UnitRange}
-use Rattle.edit_model.specs.declared.settings.WatcherSetting.{WatcherSetting}
+use Rattle.trace_model.specs.declared.settings.WatcherSetting.{WatcherSetting}
 use Rattle.edit_model.specs.State.{place}
 use Rattle.settings_reader.specs.declared.settings.Settings.{Settings}
 use Rattle.settings_reader.specs.Seen.{as_settings}
-use Rattle.edit_model.specs.Faults.{GivesSeen}
-use Rattle.edit_model.specs.Settings.{FitsFilter, FitsLimits, having, each_of, within, number_of, item_count, few_items, array_of, range_of}
-use Rattle.edit_model.specs.Settings.{ranges_of, text_of, value_at, only, has_foreign, length_filter, allow_filter, filter_by_kind}
-use Rattle.edit_model.specs.Settings.{filter_of, are_tables, tables_of, filter_in, filters_of, width_default, settings_of, known_keys}
-use Rattle.edit_model.specs.Settings.{numbers_most, greatest_number, FitsWatcher, kind_named, numbers_of, watcher_of_kind, watcher_by_kind}
-use Rattle.edit_model.specs.Settings.{watcher_of, watcher_in, watchers_of}
+use Rattle.trace_model.specs.Faults.{GivesSeen}
+use Rattle.trace_model.specs.Settings.{FitsFilter, FitsLimits, having, each_of, within, number_of, item_count, few_items, array_of, range_of}
+use Rattle.trace_model.specs.Settings.{ranges_of, text_of, value_at, only, has_foreign, length_filter, allow_filter, filter_by_kind}
+use Rattle.trace_model.specs.Settings.{filter_of, are_tables, tables_of, filter_in, filters_of, width_default, settings_of, known_keys}
+use Rattle.trace_model.specs.Settings.{numbers_most, greatest_number, FitsWatcher, kind_named, numbers_of, watcher_of_kind, watcher_by_kind}
+use Rattle.trace_model.specs.Settings.{watcher_of, watcher_in, watchers_of}
 
 module _ {X Y : Type 0} (P : Y → Type 0) where
   -- what was read first is of this kind, and so what is read of it is of that kind

@@ -4,11 +4,11 @@ use Rattle.std.proofs.lemmas.List.{get_or-map, map-set, at_drop_more, at_drop_al
 use Rattle.std.specs.List.{All}
 use Rattle.std.specs.Option.{option_and_then, option_map_or}
 use Rattle.std.specs.Prelude.{slice_index_or, slice_set, option_map}
-use Rattle.edit_model.specs.declared.settings.WatcherSetting.{WatcherSetting}
-use Rattle.edit_model.specs.ShelfLaws.{IsSeated}
-use Rattle.edit_model.proofs.Shelving.{shelf_loaded}
+use Rattle.trace_model.specs.declared.settings.WatcherSetting.{WatcherSetting}
+use Rattle.trace_model.specs.ShelfLaws.{IsShelved}
+use Rattle.trace_model.proofs.Shelving.{shelf_loaded}
 use Rattle.edit_model.specs.Minds.{Mind, blank_mind, loaded_mind}
-use Rattle.edit_model.specs.Shelves.{Loaded, so_far, first_free, mind_at, load_at, load_next, load_all, loaded_shelf}
+use Rattle.trace_model.specs.Shelves.{Loaded, so_far, first_free, mind_at, load_at, load_next, load_all, loaded_shelf}
 
 module _ {X : Type 0} (shelf : List X) (mind_of : X → Mind) (entry : WatcherSetting) (slots : List ℕ) where
   abbrev shelved : List Mind
@@ -71,7 +71,7 @@ module _ (entries : List WatcherSetting) (start : List Mind) where
   -- where all loaded, each slot's watcher stands on the shelf
   pub all_seated : (slots : List ℕ) (minds : List Mind) → so_far slots minds ≡ loaded_shelf entries start → All (λ place. place < length minds) slots
   all_seated slots minds ended =
-      let seated = subst (IsSeated entries start) (sym ended) (shelf_loaded entries start).0 in
+      let seated = subst (IsShelved entries start) (sym ended) (shelf_loaded entries start).0 in
       subst (λ count. All (λ place. place < count) slots) (sym seated.kept) seated.on_shelf
 
   module _ (slots : List ℕ) (minds : List Mind) (count : ℕ) (entry d : WatcherSetting) (left : count < length entries)

@@ -2,8 +2,8 @@
 use Rattle.std.proofs.Common.{◌≡◌, ◌<◌, List, [], ◌∷◌, length, Err, refl, arith}
 use Rattle.toml.specs.View.{items_view}
 use Rattle.toml.specs.declared.value.Value.{Value}
-use Rattle.edit_model.specs.declared.faults.SettingsFault.TheVariants as fault
-use Rattle.edit_model.specs.Settings.{range_by_items}
+use Rattle.trace_model.specs.declared.faults.SettingsFault.TheVariants as fault
+use Rattle.trace_model.specs.Settings.{range_by_items}
 
 pub no_pair-short : (values : List Value) → length values < 2 → range_by_items (items_view values) ≡ Err fault.Value
 no_pair-short [] short = refl

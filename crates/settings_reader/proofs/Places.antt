@@ -5,7 +5,7 @@ use Rattle.std.proofs.lemmas.List.{get_or-map}
 use Rattle.std.specs.List.{find, range_with_len}
 use Rattle.std.specs.Prelude.{slice_index_or}
 use Rattle.edit_model.specs.Minds.{Mind, blank_mind}
-use Rattle.edit_model.specs.Shelves.{is_free, is_taken}
+use Rattle.trace_model.specs.Shelves.{is_free, is_taken}
 
 -- the first free place of so many, from one on
 abbrev pub first_from : ℕ → List ℕ → List Mind → ℕ → ℕ → Option ℕ

@@ -5,7 +5,7 @@ use Rattle.std.specs.Map.{keys_of as keys_of_map}
 use Rattle.std.specs.Str.{bytes_eq}
 use Rattle.toml.specs.View.{members_view}
 use Rattle.toml.specs.declared.value.Value.{Value}
-use Rattle.edit_model.specs.Settings.{has_foreign}
+use Rattle.trace_model.specs.Settings.{has_foreign}
 use Rattle.edit_model.proofs.Tests.{list_any-map}
 
 -- a key that is none of these names

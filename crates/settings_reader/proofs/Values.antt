@@ -7,8 +7,8 @@ use Rattle.std.proofs.lemmas.Bool.Decides.{nat_tests}
 use Rattle.toml.specs.Data.{as_table}
 use Rattle.toml.specs.View.{view, items_view}
 use Rattle.toml.specs.declared.value.Value.{Value}
-use Rattle.edit_model.specs.declared.faults.SettingsFault.TheVariants as fault
-use Rattle.edit_model.specs.Settings.{item_count, few_items, are_tables}
+use Rattle.trace_model.specs.declared.faults.SettingsFault.TheVariants as fault
+use Rattle.trace_model.specs.Settings.{item_count, few_items, are_tables}
 
 item_count-view : (values : List Value) → item_count (items_view values) ≡ length values
 item_count-view [] = refl

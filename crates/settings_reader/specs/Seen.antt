@@ -1,5 +1,5 @@
 -- The settings of the program as definitions speak of them.
-use Rattle.edit_model.specs.Settings as plain
+use Rattle.trace_model.specs.Settings as plain
 use Rattle.settings_reader.specs.declared.settings.Settings.{Settings}
 
 -- the settings as the plain record

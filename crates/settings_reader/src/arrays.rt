@@ -3,19 +3,19 @@
 ghost use Rattle.std.specs.Prelude.{◌≡◌, ok_or};
 ghost use Rattle.toml.specs.Data.{as_array};
 ghost use Rattle.toml.specs.View.{view, items_view};
-ghost use Rattle.edit_model.specs.Faults.{Gives, GivesSeen};
-ghost use Rattle.edit_model.specs.Settings.{are_tables as are_tables_by, few_items, each_of, tables_of as tables_by};
+ghost use Rattle.trace_model.specs.Faults.{Gives, GivesSeen};
+ghost use Rattle.trace_model.specs.Settings.{are_tables as are_tables_by, few_items, each_of, tables_of as tables_by};
 
 use edit_base::Items;
-use edit_model::SettingsFault;
 use std::alloc::Global;
 use toml::Value;
+use trace_model::SettingsFault;
 
 /// What stands in an array of the settings, and how one value of it is read.
 pub(crate) trait FromValue: Drop {
     ghost use Rattle.std.specs.Prelude.{Result};
     ghost use Rattle.toml.specs.Data.{Data};
-    ghost use Rattle.edit_model.specs.declared.faults.SettingsFault.{SettingsFault};
+    ghost use Rattle.trace_model.specs.declared.faults.SettingsFault.{SettingsFault};
 
     ghost reading: { Data → Result Self SettingsFault };
 

@@ -2,19 +2,20 @@
 
 ghost use Rattle.std.specs.Prelude.{◌≡◌, [], ◌∷◌, codes, Ok};
 ghost use Rattle.toml.specs.View.{view, table_view};
-ghost use Rattle.edit_model.specs.Faults.{Gives};
-ghost use Rattle.edit_model.specs.Settings.{only as only_keys, filters_of as filters_by};
-ghost use Rattle.edit_model.specs.Settings.{filter_of as filter_by_table};
-ghost use Rattle.edit_model.specs.Settings.{filter_by_kind as filter_of_kind, length_filter as length_by};
-ghost use Rattle.edit_model.specs.Settings.{allow_filter as allow_by};
+ghost use Rattle.trace_model.specs.Faults.{Gives};
+ghost use Rattle.trace_model.specs.Settings.{only as only_keys, filters_of as filters_by};
+ghost use Rattle.trace_model.specs.Settings.{filter_of as filter_by_table};
+ghost use Rattle.trace_model.specs.Settings.{filter_by_kind as filter_of_kind, length_filter as length_by};
+ghost use Rattle.trace_model.specs.Settings.{allow_filter as allow_by};
 
 use crate::arrays::{FromValue, each_of, tables_of};
 use crate::keys::{number_of, only, value_at};
 use crate::ranges::ranges_of;
 use edit_base::{Items, Limits};
-use edit_model::{Filter, SettingsFault};
+use edit_model::Filter;
 use std::alloc::Global;
 use toml::{Table, Value};
+use trace_model::SettingsFault;
 
 /// The filters of an array of tables, in its order.
 ///
@@ -29,7 +30,7 @@ pub(crate) fn filters_of(alloc: Global, value: &Value) -> Result<Items<Filter>, 
 }
 
 impl FromValue for Filter {
-    ghost use Rattle.edit_model.specs.Settings.{filter_in};
+    ghost use Rattle.trace_model.specs.Settings.{filter_in};
 
     ghost reading = { filter_in };
 

@@ -5,12 +5,12 @@ ghost use Rattle.std.specs.List.{list_any};
 ghost use Rattle.std.specs.Str.{bytes_eq};
 ghost use Rattle.toml.specs.Data.{get_member};
 ghost use Rattle.toml.specs.View.{view, table_view};
-ghost use Rattle.edit_model.specs.Faults.{GivesSeen};
-ghost use Rattle.edit_model.specs.Settings.{has_foreign as has_foreign_key, number_of as number_by};
-ghost use Rattle.edit_model.specs.Settings.{within as number_within, value_at as value_by, at_key};
+ghost use Rattle.trace_model.specs.Faults.{GivesSeen};
+ghost use Rattle.trace_model.specs.Settings.{has_foreign as has_foreign_key, number_of as number_by};
+ghost use Rattle.trace_model.specs.Settings.{within as number_within, value_at as value_by, at_key};
 
-use edit_model::SettingsFault;
 use toml::{Table, Value};
+use trace_model::SettingsFault;
 
 /// Asks that a table has no other keys than these.
 ///

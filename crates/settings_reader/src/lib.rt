@@ -10,11 +10,8 @@ mod settings;
 mod shelf;
 mod watchers;
 
-pub use edit_model::{SettingsFault, WatcherSetting};
 pub use reading::{built_in, read_settings};
 pub use settings::Settings;
 pub use shelf::load_shelf;
+pub use trace_model::{SettingsFault, WatcherSetting};
 pub use watcher_api::Slots;
-
-#[cfg(test)]
-mod tests;

@@ -3,16 +3,17 @@
 ghost use Rattle.std.specs.Prelude.{◌≡◌};
 ghost use Rattle.toml.specs.View.{view, items_view};
 ghost use Rattle.edit_base.specs.declared.bounds.TheConstants.Limits.{RANGES};
-ghost use Rattle.edit_model.specs.Faults.{Gives, GivesSeen};
-ghost use Rattle.edit_model.specs.Settings.{array_of as array_by, ranges_of as ranges_by};
-ghost use Rattle.edit_model.specs.Settings.{number_of as number_by, greatest_unit};
+ghost use Rattle.trace_model.specs.Faults.{Gives, GivesSeen};
+ghost use Rattle.trace_model.specs.Settings.{array_of as array_by, ranges_of as ranges_by};
+ghost use Rattle.trace_model.specs.Settings.{number_of as number_by, greatest_unit};
 
 use crate::arrays::{FromValue, each_of, few_of, values_of};
 use crate::keys::number_of;
 use edit_base::{Items, Limits};
-use edit_model::{SettingsFault, UnitRange};
+use edit_model::UnitRange;
 use std::alloc::Global;
 use toml::Value;
+use trace_model::SettingsFault;
 
 /// The ranges of an array of pairs, in its order.
 ///
@@ -35,7 +36,7 @@ fn pairs_of(value: &Value) -> Result<&[Value], SettingsFault>
 }
 
 impl FromValue for UnitRange {
-    ghost use Rattle.edit_model.specs.Settings.{range_of};
+    ghost use Rattle.trace_model.specs.Settings.{range_of};
 
     ghost reading = { range_of };
 

@@ -3,11 +3,11 @@
 ghost use Rattle.std.specs.Prelude.{◌≡◌, ◌<◌, ◌⊎◌, [], codes, length, IfOk, IfErr, IsOkAnd, ok_or};
 ghost use Rattle.toml.specs.View.{table_view};
 ghost use Rattle.edit_base.specs.declared.bounds.TheConstants.Limits.{SETTINGS_BYTES};
-ghost use Rattle.edit_model.specs.Faults.{Gives, GivesSeen};
-ghost use Rattle.edit_model.specs.Settings.{FitsLimits, toml_of, at_key, filters_of as filters_by};
-ghost use Rattle.edit_model.specs.Settings.{watchers_of as watchers_by};
-ghost use Rattle.edit_model.specs.Settings.{settings_of as settings_by, built_in as built_in_settings};
-ghost use Rattle.edit_model.specs.Settings.{read_settings as settings_of_bytes};
+ghost use Rattle.trace_model.specs.Faults.{Gives, GivesSeen};
+ghost use Rattle.trace_model.specs.Settings.{FitsLimits, toml_of, at_key, filters_of as filters_by};
+ghost use Rattle.trace_model.specs.Settings.{watchers_of as watchers_by};
+ghost use Rattle.trace_model.specs.Settings.{settings_of as settings_by, built_in as built_in_settings};
+ghost use Rattle.trace_model.specs.Settings.{read_settings as settings_of_bytes};
 ghost use Rattle.settings_reader.specs.Seen.{as_settings};
 
 use crate::filters::filters_of;
@@ -15,9 +15,10 @@ use crate::keys::{found_at, number_at, only};
 use crate::settings::Settings;
 use crate::watchers::watchers_of;
 use edit_base::{Items, Limits, NoMemory};
-use edit_model::{Filter, SettingsFault, WatcherSetting};
+use edit_model::Filter;
 use std::alloc::Global;
 use toml::Table;
+use trace_model::{SettingsFault, WatcherSetting};
 
 // The width of the layout where the settings are silent.
 const WIDTH_DEFAULT: u32 = 400;
@@ -49,7 +50,7 @@ pub fn built_in(alloc: Global) -> Result<Settings, NoMemory>
 /// the array `ranges` of `allow`, at most 1,024 pairs of numbers 0 to 65,535. Behind the filters come the watchers, in
 /// the same way; each takes the array `numbers`, at most 8 numbers of 32 bits, whatever its kind. `NoMemory` where
 /// there is no memory.
-#[tactic(auto, unfolding(edit_model::specs::Settings::read_settings))]
+#[tactic(auto, unfolding(trace_model::specs::Settings::read_settings))]
 pub fn read_settings(alloc: Global, bytes: &[u8]) -> Result<Settings, SettingsFault>
     ensures ok { IfOk result (λ settings. settings_of_bytes bytes.now ≡ Ok (as_settings settings)) }
     ensures err { IfErr result (λ it. (it ≡ SettingsFault.NoMemory) ⊎ (settings_of_bytes bytes.now ≡ Err it)) }

@@ -1,7 +1,8 @@
 //! What a run is set to.
 
 use edit_base::Items;
-use edit_model::{Filter, WatcherSetting};
+use edit_model::Filter;
+use trace_model::WatcherSetting;
 
 /// The settings of a run.
 #[derive(Debug, Drop)]

@@ -4,15 +4,15 @@ ghost use Rattle.std.specs.Prelude.{◌≡◌, ◌≤◌, ◌<◌, ◌++◌, ◌
 ghost use Rattle.std.specs.List.{All};
 ghost use Rattle.edit_base.specs.declared.bounds.TheConstants.Limits.{WATCHERS};
 ghost use Rattle.edit_model.specs.Minds.{loaded_mind};
-ghost use Rattle.edit_model.specs.Shelves.{loaded_shelf, load_next, so_far, first_free as first_free_by, is_taken};
+ghost use Rattle.trace_model.specs.Shelves.{loaded_shelf, load_next, so_far, first_free as first_free_by, is_taken};
 
 use crate::settings::Settings;
-use edit_model::{SettingsFault, WatcherSetting};
+use trace_model::{SettingsFault, WatcherSetting};
 use watcher_api::{Slots, Watcher};
 
-/// Loads the watchers that the settings ask for, and answers their places on the shelf: that of the watcher in slot k
-/// stands at k. Each takes, in order, the first watcher on the shelf that none before it took and that is of its kind,
-/// and loads it with its numbers. There are at most 8 watchers in the settings. No memory is taken.
+/// Loads the watchers that the settings ask for, and answers their shelf places: that of the watcher in slot k stands
+/// at k. Each takes, in order, the first watcher on the shelf that none before it took and that is of its kind, and
+/// loads it with its numbers. There are at most 8 watchers in the settings. No memory is taken.
 ///
 /// # Errors
 /// `Watcher` where there is no such watcher, or it isn't blank, or the numbers don't fit its kind. What was loaded
@@ -41,7 +41,7 @@ pub fn load_shelf(
     Ok(slots)
 }
 
-// Loads the first watcher that is free for an entry, and answers its place.
+// Loads the first watcher that is free for an entry, and answers its shelf place.
 fn load_next(
     entry: &WatcherSetting,
     slots: &[usize],
@@ -74,7 +74,7 @@ fn load(watcher: &mut Box<dyn Watcher>, numbers: &[u32]) -> bool
     watcher.load(numbers)
 }
 
-// The first place on the shelf that is free for a kind.
+// The first shelf place that is free for a kind.
 fn first_free(kind: u32, slots: &[usize], shelf: &[Box<dyn Watcher>]) -> Option<usize>
     ensures first { result ≡ first_free_by kind slots.now (map (λ b. mind b) shelf.now) }
     ensures within { IfSome result (λ place. place < length shelf.now) }
@@ -87,7 +87,7 @@ fn first_free(kind: u32, slots: &[usize], shelf: &[Box<dyn Watcher>]) -> Option<
     None
 }
 
-// Whether a watcher is of this kind, and none of these slots has its place.
+// Whether a watcher is of this kind, and none of these slots has its shelf place.
 fn is_free(kind: u32, slots: &[usize], place: usize, watcher: &Box<dyn Watcher>) -> bool
     ensures { result ≡ ((mind watcher.now).kind == kind && not (is_taken slots.now place)) }
 {

@@ -2,16 +2,16 @@
 
 ghost use Rattle.std.specs.Prelude.{◌≡◌};
 ghost use Rattle.toml.specs.View.{view, table_view};
-ghost use Rattle.edit_model.specs.Faults.{Gives};
-ghost use Rattle.edit_model.specs.Settings.{watchers_of as watchers_by, watcher_of as watcher_by_table, having};
-ghost use Rattle.edit_model.specs.Settings.{watcher_by_kind, kind_named as kind_by_name, numbers_of as numbers_by};
+ghost use Rattle.trace_model.specs.Faults.{Gives};
+ghost use Rattle.trace_model.specs.Settings.{watchers_of as watchers_by, watcher_of as watcher_by_table, having};
+ghost use Rattle.trace_model.specs.Settings.{watcher_by_kind, kind_named as kind_by_name, numbers_of as numbers_by};
 
 use crate::arrays::{FromValue, each_of, few_of, tables_of, values_of};
 use crate::keys::{number_of, only, value_at};
 use edit_base::{Items, Limits};
-use edit_model::{SettingsFault, WatcherSetting};
 use std::alloc::Global;
 use toml::{Table, Value};
+use trace_model::{SettingsFault, WatcherSetting};
 
 // How many numbers a watcher may be loaded with.
 const NUMBERS_MOST: u32 = 8;
@@ -32,7 +32,7 @@ pub(crate) fn watchers_of(
 }
 
 impl FromValue for WatcherSetting {
-    ghost use Rattle.edit_model.specs.Settings.{watcher_in};
+    ghost use Rattle.trace_model.specs.Settings.{watcher_in};
 
     ghost reading = { watcher_in };
 
@@ -95,7 +95,7 @@ fn numbers_of(alloc: Global, value: &Value) -> Result<Items<u32>, SettingsFault>
 }
 
 impl FromValue for u32 {
-    ghost use Rattle.edit_model.specs.Settings.{number_of as number_by, greatest_number};
+    ghost use Rattle.trace_model.specs.Settings.{number_of as number_by, greatest_number};
 
     ghost reading = { number_by 0 greatest_number };
 

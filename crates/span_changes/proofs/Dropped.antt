@@ -9,7 +9,7 @@ use Rattle.edit_model.specs.Attached.{has_id, is_attached, spans_of, without_spa
 use Rattle.edit_model.specs.Selection.{is_dropped}
 use Rattle.edit_model.specs.WellFormed.{HasDistinctIds}
 use Rattle.edit_model.proofs.SpanLists.{all-weaker, all_fail}
-use Rattle.span_table.specs.Table.{place_of, span_at}
+use Rattle.span_table.specs.Table.{row_place, span_at}
 use Rattle.span_changes.proofs.Lists.{any_counted, filter_alike}
 use Rattle.span_changes.proofs.Spans.{absent_found, found_there}
 
@@ -64,7 +64,7 @@ any_dropped spans some absent is =
     is ∙ any_counted is_part spans ∙ sym (ap (λ first. first || list_any is_part spans) absent) ∙ region_or_part spans
 
 -- one span of an id is one of those, or none
-pub region_counted : (spans : List Span) (at : ℕ) → HasDistinctIds spans → place_of 2 spans ≡ Some at
+pub region_counted : (spans : List Span) (at : ℕ) → HasDistinctIds spans → row_place 2 spans ≡ Some at
     → cond (is_part (span_at spans at)) 1 0 ≡ length (filter (λ span. has_id 2 span && is_part span) spans)
 region_counted spans at distinct is =
     one_or_none (is_part (span_at spans at))

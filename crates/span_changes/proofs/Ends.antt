@@ -9,7 +9,7 @@ use Rattle.edit_model.specs.Attached.{has_id, is_attached, spans_of, without_spa
 use Rattle.edit_model.specs.Selection.{is_of_selection}
 use Rattle.edit_model.specs.WellFormed.{HasDistinctIds}
 use Rattle.edit_model.proofs.SpanLists.{all_each, all_fail}
-use Rattle.span_table.specs.Table.{no_span, place_of}
+use Rattle.span_table.specs.Table.{no_span, row_place}
 use Rattle.span_changes.proofs.Lists.{filter_alike}
 use Rattle.span_changes.proofs.Spans.{absent_found, at_place, before_at, behind_at}
 
@@ -90,7 +90,7 @@ module _ (spans : List Span) where
   pub without_end : is_attached 1 spans ≡ false → spans_of 1 spans ++ spans_of 0 spans ≡ filter is_of_selection spans
   without_end absent = without_first 1 0 spans absent ∙ both_end
 
-  module _ (first last : ℕ) (distinct : HasDistinctIds spans) (starts : place_of 0 spans ≡ Some first) (ends : place_of 1 spans ≡ Some last) where
+  module _ (first last : ℕ) (distinct : HasDistinctIds spans) (starts : row_place 0 spans ≡ Some first) (ends : row_place 1 spans ≡ Some last) where
     pub from_start : first ≤ last → spans_of 0 spans ++ spans_of 1 spans ≡ filter is_of_selection spans
     from_start order =
         let start = at_place 0 spans first starts in

@@ -1,5 +1,5 @@
 -- The spans of the selection and of the composing region, found at their places and moved there.
-use Rattle.std.proofs.Common.{◌≡◌, ℕ, ◌<◌, ◌≤◌, zero, suc, Bool, true, false, cond, List, [], ◌∷◌, map, length, get_or, refl, sym, ap, ◌∙◌, arith, Some, None, inl, inr, eq-eqb}
+use Rattle.std.proofs.Common.{◌≡◌, ℕ, ◌<◌, zero, suc, Bool, true, false, cond, List, [], ◌∷◌, map, length, get_or, refl, sym, ap, ◌∙◌, arith, Some, None, inl, inr, eq-eqb}
 use Rattle.std.proofs.Math.ListN.{set}
 use Rattle.std.specs.List.{AllByRecursion, find, list_any}
 use Rattle.std.proofs.lemmas.Bool.{cases_Bool, eqb-true, ne_eqb, or_parts}
@@ -9,7 +9,7 @@ use Rattle.edit_model.specs.Attached.{has_id, is_attached}
 use Rattle.edit_model.specs.Selection.{at_place as put_at, with_ends}
 use Rattle.edit_model.specs.WellFormed.{HasDistinctIds}
 use Rattle.edit_model.proofs.SpanLists.{distinct-map}
-use Rattle.span_table.specs.Table.{no_span, place_of, span_at}
+use Rattle.span_table.specs.Table.{no_span, row_place, span_at}
 use Rattle.span_changes.proofs.Spans.{at_place, attached_at, before_at, behind_at}
 
 -- ---- the first that passes
@@ -27,7 +27,7 @@ module _ {X : Type 0} (p : X → Bool) where
   none_passes (x ∷ xs) none = let parts = or_parts (p x) (list_any p xs) none in rw parts.0 (none_passes xs parts.1)
 
 -- the span at the place of an id is the one that is found by it
-pub found_by_id : (id : ℕ) (spans : List Span) (at : ℕ) → place_of id spans ≡ Some at → find (has_id id) spans ≡ Some (span_at spans at)
+pub found_by_id : (id : ℕ) (spans : List Span) (at : ℕ) → row_place id spans ≡ Some at → find (has_id id) spans ≡ Some (span_at spans at)
 found_by_id id spans at is =
     let found = position-Some (has_id id) spans at no_span is in
     found_first (has_id id) spans at no_span found.0 found.1 found.2
@@ -35,7 +35,7 @@ found_by_id id spans at is =
 pub none_by_id : (id : ℕ) (spans : List Span) → is_attached id spans ≡ false → find (has_id id) spans ≡ None
 none_by_id id spans absent = none_passes (has_id id) spans absent
 
-pub attached_by_place : (id : ℕ) (spans : List Span) (at : ℕ) → place_of id spans ≡ Some at → is_attached id spans ≡ true
+pub attached_by_place : (id : ℕ) (spans : List Span) (at : ℕ) → row_place id spans ≡ Some at → is_attached id spans ≡ true
 attached_by_place id spans at is = let there = at_place id spans at is in attached_at id spans at no_span there.within there.id_is
 
 -- ---- the span of an id goes to a place
@@ -88,7 +88,7 @@ module _ (start end : ℕ) where
   ]
 
   -- the ends of the selection, one after the other
-  pub both_moved : (spans : List Span) (first last : ℕ) → HasDistinctIds spans → place_of 0 spans ≡ Some first → place_of 1 spans ≡ Some last
+  pub both_moved : (spans : List Span) (first last : ℕ) → HasDistinctIds spans → row_place 0 spans ≡ Some first → row_place 1 spans ≡ Some last
       → set (set spans first (put_at start (span_at spans first))) last
       (put_at end (span_at (set spans first (put_at start (span_at spans first))) last)) ≡ map (with_ends start end) spans
   both_moved spans first last distinct zero_is one_is =

@@ -12,7 +12,7 @@ use Rattle.edit_model.specs.Changed.{Effect, shifts_by, set_effect, spans_effect
 use Rattle.edit_model.specs.Rows.{spans_in}
 use Rattle.edit_model.specs.WellFormed.{HasDistinctIds}
 use Rattle.edit_model.proofs.SpanLists.{all_fail}
-use Rattle.span_table.specs.Table.{no_span, place_of, span_at, without_at}
+use Rattle.span_table.specs.Table.{no_span, row_place, span_at, without_at}
 use Rattle.moved_rows.specs.Moves.{Moves, moved_of}
 
 -- a change is what its numbers and lists say
@@ -100,12 +100,12 @@ pub record IsAtPlace (id : ℕ) (spans : List Span) (at : ℕ) : Type 0 where
   pub within : at < length spans
   pub id_is : (span_at spans at).id ≡ id
 
-pub at_place : (id : ℕ) (spans : List Span) (at : ℕ) → place_of id spans ≡ Some at → IsAtPlace id spans at
+pub at_place : (id : ℕ) (spans : List Span) (at : ℕ) → row_place id spans ≡ Some at → IsAtPlace id spans at
 at_place id spans at is =
     let found = position-Some (has_id id) spans at no_span is in
     record { within = found.0; id_is = eqb-true _ _ found.1 }
 
-module _ (id : ℕ) (spans : List Span) (at : ℕ) (distinct : HasDistinctIds spans) (is : place_of id spans ≡ Some at) where
+module _ (id : ℕ) (spans : List Span) (at : ℕ) (distinct : HasDistinctIds spans) (is : row_place id spans ≡ Some at) where
   pub taken_there : without_at at spans ≡ without_span id spans
   taken_there =
       let there = at_place id spans at is in
@@ -114,7 +114,7 @@ module _ (id : ℕ) (spans : List Span) (at : ℕ) (distinct : HasDistinctIds sp
   pub found_there : spans_of id spans ≡ span_at spans at ∷ []
   found_there = let there = at_place id spans at is in found_at id spans at no_span distinct there.within there.id_is
 
-module _ (span : Span) (spans : List Span) (at : ℕ) (distinct : HasDistinctIds spans) (is : place_of span.id spans ≡ Some at) where
+module _ (span : Span) (spans : List Span) (at : ℕ) (distinct : HasDistinctIds spans) (is : row_place span.id spans ≡ Some at) where
   pub attached_there : is_attached span.id spans ≡ true
   attached_there = let there = at_place span.id spans at is in attached_at span.id spans at no_span there.within there.id_is
 

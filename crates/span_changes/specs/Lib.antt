@@ -1,4 +1,3 @@
 pub mod Changes
 pub mod Rows
-pub mod Gone
-pub mod Lines
+pub mod SelectVerdicts

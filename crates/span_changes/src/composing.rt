@@ -1,4 +1,4 @@
-//! The composing region, and spans that go together with it or with the selection.
+//! The composing region, and the spans that go together with it.
 
 ghost use Rattle.std.specs.Prelude.{ℕ, List, ◌≡◌, ◌≤◌, ◌<◌, ◌+◌, ◌++◌, ◌∷◌, ◌&&◌, [], length, filter, not, true, false, is_some, vec_capacity, vec_len, OnOk, OnErr, IsOk, if◌then◌else◌};
 ghost use Rattle.std.specs.List.{IsDistinct, list_any};
@@ -15,12 +15,10 @@ ghost use Rattle.interval_tree.specs.Answers.{IsRising, orders_of};
 ghost use Rattle.interval_tree.specs.Ids.{ids_given, same_number};
 ghost use Rattle.span_table.specs.Table.{spans_of};
 ghost use Rattle.span_changes.specs.Changes.{effect_of};
-ghost use Rattle.span_changes.specs.Gone.{is_gone};
 ghost use Rattle.span_changes.specs.Rows.{HasRoom, IsTold, KeepsRoom, SeesGap, span_room, state_with};
 
 use crate::attached::is_attached;
 use crate::changes::Change;
-use crate::selecting::remove_ends;
 use crate::setting::{remove_row, set_row};
 use edit_base::{Limits, NoMemory, Refusal, SpanRow, Steps, Verdict, What};
 use interval_tree::SpanIndex;
@@ -96,14 +94,6 @@ pub fn mark_row(
 
 // ---- spans that go together
 
-/// What goes: the selection, or the composing region with every span whose flags word says that it is part of a
-/// composing text.
-#[derive(Clone, Copy)]
-pub enum Gone {
-    Selection,
-    Composing,
-}
-
 /// The verdict of a drop.
 #[tactic(auto, unfolding(edit_model::specs::Verdicts::judged))]
 pub fn judge_drop(rows: &SpanIndex) -> Verdict
@@ -123,29 +113,9 @@ fn has_dropped(rows: &SpanIndex) -> bool
     is_attached(rows, 2) || rows.composing() > 0
 }
 
-/// The spans go, and the change says so. All rows are read only where a drop takes a span that isn't the region.
-pub fn take_out(gone: Gone, rest: &mut Vec<SpanRow>, change: &mut Change)
-    requires distinct { HasDistinctIds (spans_of change.old.moved.rows) }
-    requires told { HasRoom (length change.old.moved.rows.kept) (vec_capacity rest.old) change.old }
-    ensures rows { spans_of change.new.moved.rows
-        ≡ filter (λ span. not (is_gone gone span)) (spans_of change.old.moved.rows) }
-    ensures effect { effect_of change.new
-        ≡ spans_effect (filter (is_gone gone) (spans_of change.old.moved.rows)) [] [] }
-    ensures tells { IsTold change.new }
-    ensures fewer { length change.new.moved.rows.kept ≤ length change.old.moved.rows.kept }
-    ensures gap { SeesGap change.old.moved.rows change.new.moved.rows }
-    ensures spare { change.old.moved.rows.spare ≤ change.new.moved.rows.spare }
-    ensures rest { vec_capacity rest.old ≤ vec_capacity rest.new }
-    ensures lists { KeepsRoom change.old change.new }
-{
-    match gone {
-        Gone::Selection => remove_ends(change),
-        Gone::Composing => drop_rows(rest, change),
-    }
-}
-
-/// The region goes, and all spans that are part of a composing text.
-fn drop_rows(rest: &mut Vec<SpanRow>, change: &mut Change)
+/// The region goes, and all spans that are part of a composing text, and the change says so. All rows are read only
+/// where one goes that isn't the region.
+pub fn drop_rows(rest: &mut Vec<SpanRow>, change: &mut Change)
     requires distinct { HasDistinctIds (spans_of change.old.moved.rows) }
     requires told { HasRoom (length change.old.moved.rows.kept) (vec_capacity rest.old) change.old }
     ensures rows { spans_of change.new.moved.rows

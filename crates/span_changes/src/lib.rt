@@ -5,7 +5,6 @@
 mod attached;
 mod changes;
 mod composing;
-mod places;
 mod room;
 mod selecting;
 mod setting;
@@ -13,7 +12,6 @@ mod telling;
 
 pub use attached::is_attached;
 pub use changes::Change;
-pub use composing::{Gone, judge_drop, judge_mark, mark_row, region_of, take_out};
-pub use places::place_of;
-pub use selecting::{judge_deselect, judge_select, select_rows, selection_of};
+pub use composing::{drop_rows, judge_drop, judge_mark, mark_row, region_of};
+pub use selecting::{judge_deselect, judge_select, remove_ends, select_rows, selection_of};
 pub use setting::{remove_row, set_row};

@@ -11,17 +11,17 @@ ghost use Rattle.edit_model.specs.Rows.{spans_in};
 ghost use Rattle.edit_model.specs.Selection.{are_ends, at_place, has_selection, is_of_selection, selection, selection_end, selection_start, with_ends};
 ghost use Rattle.edit_model.specs.Verdicts.{first_of, judged, span_count_after_select};
 ghost use Rattle.edit_model.specs.WellFormed.{HasDistinctIds};
-ghost use Rattle.span_table.specs.Table.{place_of, span_at, spans_of};
+ghost use Rattle.span_table.specs.Table.{row_place, span_at, spans_of};
 ghost use Rattle.span_changes.specs.Changes.{effect_of};
-ghost use Rattle.span_changes.specs.Lines.{selection_lines};
+ghost use Rattle.span_changes.specs.SelectVerdicts.{selection_lines};
 ghost use Rattle.span_changes.specs.Rows.{HasRoom, IsTold, KeepsRoom, SeesGap, IsFurther, span_room, state_with};
 
 use crate::attached::is_attached;
 use crate::changes::Change;
-use crate::places::place_of;
 use crate::setting::remove_also;
 use edit_base::{Limits, NoMemory, Refusal, SpanRow, Verdict, What};
 use interval_tree::SpanIndex;
+use span_flags::{goes_below, goes_beyond, place_of};
 use span_table::push_within;
 
 /// Where the selection's start and end stand; none where it isn't attached.
@@ -55,11 +55,10 @@ pub fn judge_select(len: u32, rows: &SpanIndex, start: i32, end: i32) -> Verdict
     ensures starts { result ≡ Done → pos 0 ≤ℤ start }
     ensures ends { result ≡ Done → pos 0 ≤ℤ end }
 {
-    let last = i64::from(len);
-    if i64::from(start) > last || i64::from(end) > last {
+    if goes_beyond(len, start, end) {
         return Verdict::Refused(Refusal::Beyond);
     }
-    if start < 0 || end < 0 {
+    if goes_below(start, end) {
         return Verdict::Refused(Refusal::Below);
     }
     judge_ends(rows, place_of(start), place_of(end))
@@ -146,8 +145,8 @@ pub fn select_rows(
 /// The ends of the selection at these places go to their new places, and the change says so.
 fn move_ends(first: u32, last: u32, start: u32, end: u32, change: &mut Change)
     requires distinct { HasDistinctIds (spans_of change.old.moved.rows) }
-    requires first { place_of 0 (spans_of change.old.moved.rows) ≡ Some first }
-    requires last { place_of 1 (spans_of change.old.moved.rows) ≡ Some last }
+    requires first { row_place 0 (spans_of change.old.moved.rows) ≡ Some first }
+    requires last { row_place 1 (spans_of change.old.moved.rows) ≡ Some last }
     ensures rows { spans_of change.new.moved.rows ≡ map (with_ends start end) (spans_of change.old.moved.rows) }
     ensures effect { effect_of change.new ≡ select_effect (state_with [] change.old.moved.rows) start end }
     ensures tells { IsTold change.new }

@@ -7,7 +7,7 @@ ghost use Rattle.edit_model.specs.Changed.{set_effect, spans_effect};
 ghost use Rattle.edit_model.specs.Rows.{span_of, spans_in};
 ghost use Rattle.edit_model.specs.WellFormed.{HasDistinctIds};
 ghost use Rattle.moved_rows.specs.Moves.{IsBegun};
-ghost use Rattle.span_table.specs.Table.{place_of, spans_of};
+ghost use Rattle.span_table.specs.Table.{row_place, spans_of};
 ghost use Rattle.span_changes.specs.Changes.{effect_of};
 ghost use Rattle.span_changes.specs.Rows.{HasRoom, IsTold, KeepsRoom, SeesGap, span_room, state_with};
 
@@ -54,7 +54,7 @@ pub fn set_row(
 fn replace_row(at: u32, row: &SpanRow, change: &mut Change)
     requires distinct { HasDistinctIds (spans_of change.old.moved.rows) }
     requires few { length change.old.moved.rows.kept ≤ SPANS }
-    requires at { place_of row.now.id (spans_of change.old.moved.rows) ≡ Some at }
+    requires at { row_place row.now.id (spans_of change.old.moved.rows) ≡ Some at }
     ensures rows { spans_of change.new.moved.rows ≡ with_span (span_of row.now) (spans_of change.old.moved.rows) }
     ensures effect { effect_of change.new ≡ set_effect (state_with [] change.old.moved.rows) (span_of row.now) }
     ensures tells { IsTold change.new }

@@ -6,6 +6,7 @@ mod flags;
 mod moves;
 mod over;
 mod places;
+mod ranges;
 
 pub use edit_model::{EndKind, Kind};
 pub use flags::{
@@ -15,6 +16,4 @@ pub use flags::{
 pub use moves::{Move, MoveTable, move_table, moved};
 pub use over::{is_emptied, is_layout, is_picked, is_watch, lies_over, touches};
 pub use places::{PlaceClass, end_after, is_pulled};
-
-#[cfg(test)]
-mod tests;
+pub use ranges::{goes_below, goes_beyond, place_of};

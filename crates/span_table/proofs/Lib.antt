@@ -1,2 +1,2 @@
 mod Ends
-mod Lists
+pub mod Lists

@@ -9,7 +9,7 @@ use Rattle.edit_model.specs.State.{Span}
 use Rattle.edit_model.specs.Attached.{has_id}
 use Rattle.span_table.specs.declared.kept.KeptRow.{KeptRow}
 use Rattle.span_table.specs.Offsets.{bound, starts_behind, ends_behind}
-use Rattle.span_table.specs.Table.{AreOffsets, HasRoomFor, IsClearOf, closed_span, kept_span, no_span, place_of, pushed_span, seen, span_at, without_at}
+use Rattle.span_table.specs.Table.{AreOffsets, HasRoomFor, IsClearOf, closed_span, kept_span, no_span, row_place, pushed_span, seen, span_at, without_at}
 use Rattle.span_table.proofs.Ends.{place_fits, offset_place, offset_valid, offset_sided}
 use Rattle.span_table.proofs.Ends.{pushed_place, pushed_valid, pushed_sided, closed_place, closed_valid, closed_sided}
 
@@ -48,7 +48,7 @@ found_at : {m n j k : ℕ} → m ≡ n → j ≡ k → cond (ltb m j) (Some m) N
 found_at same long = cc
 
 pub first_seen : (gap room id : ℕ) (rows : List KeptRow)
-    → position (λ row. row.id == id) rows ≡ place_of id (map (seen gap room) rows)
+    → position (λ row. row.id == id) rows ≡ row_place id (map (seen gap room) rows)
 first_seen gap room id rows = found_at (first_image (has_id id) (seen gap room) rows) (sym (length-map rows (seen gap room)))
 
 pub removed : {X : Type 0} (i : ℕ) (xs : List X) → remove xs i ≡ without_at i xs

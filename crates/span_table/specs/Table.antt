@@ -50,8 +50,8 @@ abbrev pub span_at : List Span → ℕ → Span
 span_at spans i = slice_index_or spans i no_span
 
 -- the place of the first span with this id
-abbrev pub place_of : ℕ → List Span → Option ℕ
-place_of id spans = position (has_id id) spans
+abbrev pub row_place : ℕ → List Span → Option ℕ
+row_place id spans = position (has_id id) spans
 
 -- a list without the element at a place
 abbrev pub without_at : {X : Type 0} → ℕ → List X → List X

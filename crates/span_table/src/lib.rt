@@ -5,8 +5,6 @@ mod kept;
 mod offsets;
 mod room;
 mod table;
-#[cfg(test)]
-mod tests;
 
 pub use kept::KeptRow;
 pub use offsets::is_point;

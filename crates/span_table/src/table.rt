@@ -5,7 +5,7 @@ ghost use Rattle.std.specs.List.{All, slice_set};
 ghost use Rattle.edit_model.specs.Rows.{span_of};
 ghost use Rattle.span_table.specs.Offsets.{bound};
 ghost use Rattle.span_table.specs.Table.{AreOffsets, HasRoomFor, IsClearOf, closed_span, pushed_span};
-ghost use Rattle.span_table.specs.Table.{kept_at, kept_span, place_of, seen, span_at, spans_of, with_ends, without_at};
+ghost use Rattle.span_table.specs.Table.{kept_at, kept_span, row_place, seen, span_at, spans_of, with_ends, without_at};
 
 use crate::kept::{KeptRow, keep_anew};
 use edit_base::{NoMemory, SpanRow, Steps};
@@ -88,7 +88,7 @@ impl SpanRows {
 
     /// The place of the first row with this id, or none where the id isn't there.
     pub fn find(&self, id: u32) -> Option<u32>
-        ensures { result ≡ place_of id (spans_of self.now) }
+        ensures { result ≡ row_place id (spans_of self.now) }
     {
         let at = self.rows.iter().position(|row| row.id == id)?;
         Some(at as u32)

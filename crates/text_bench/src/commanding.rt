@@ -4,17 +4,17 @@
 
 ghost use Rattle.std.specs.Prelude.{◌≡◌, ◌≤◌, ◌<◌, [], false, OnOk};
 ghost use Rattle.edit_base.specs.declared.bounds.TheConstants.Limits.{TEXT, SPANS};
-ghost use Rattle.edit_model.specs.Reading.{IsFitting};
+ghost use Rattle.trace_model.specs.Reading.{IsFitting};
 
 use crate::faults::Fault;
 use crate::making::{flags_of_tag, units};
 use crate::requests::{Kind, Request};
 use edit_base::{NoMemory, Steps, What};
-use edit_model::Command;
 use editor_core::{Editor, Summary};
 use settings_reader::built_in;
 use std::alloc::Global;
 use std::sync::ledger::Ledger;
+use trace_model::Command;
 use watcher_api::{Slots, Watcher};
 
 /// How many units are typed before the first of them is deleted.

@@ -48,8 +48,8 @@ fn has_pulled_end(row: &SpanRow, start: u32, end: u32) -> bool
         && is_paragraph(kind_of_word(row.flags))
 }
 
-// The least place behind this one with `\n` right before it, else the length.
-fn next_boundary(text: &Halves, place: u32) -> u32
+/// The least place behind this one with `\n` right before it, else the length.
+pub fn next_boundary(text: &Halves, place: u32) -> u32
     requires { place ≤ length (joined text.now) }
     ensures next { result ≡ next_boundary (joined text.now) place }
     ensures within { result ≤ length (joined text.now) }

@@ -7,7 +7,7 @@ mod coming;
 mod cut;
 mod halves;
 
-pub use boundaries::{boundary_behind, is_boundary};
+pub use boundaries::{boundary_behind, is_boundary, next_boundary};
 pub use coming::{Coming, coming_with};
 pub use cut::Cut;
 pub use halves::Halves;

@@ -10,8 +10,8 @@ use Rattle.serde_json.specs.View.{view, items_view}
 use Rattle.serde_json.specs.declared.value.Value.{Value}
 use Rattle.edit_base.specs.declared.bounds.TheConstants.Limits.{LINE_SPANS}
 use Rattle.edit_base.specs.declared.rows.NewSpan.{NewSpan}
-use Rattle.edit_model.specs.Words.{as_span}
-use Rattle.edit_model.specs.Reading.{spans_said, as_few, spans_of}
+use Rattle.trace_model.specs.Words.{as_span}
+use Rattle.trace_model.specs.Reading.{spans_said, as_few, spans_of}
 
 abbrev IsOneEach : List Value → List NewSpan → Type 0
 IsOneEach values brought = length brought ≡ length values

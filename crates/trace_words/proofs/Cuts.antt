@@ -3,7 +3,7 @@ use Rattle.std.proofs.Common.{ℕ, suc, ◌≡◌, ◌+◌, ◌<◌, Bool, true,
 use Rattle.std.proofs.Common.{refl, sym, ap, ◌∙◌, Bor, add-one, arith}
 use Rattle.std.specs.Prelude.{MatchOption}
 use Rattle.std.specs.List.{position_or_len, before_first, after_first}
-use Rattle.edit_model.specs.Words.{words_of, into_word, what_by_words}
+use Rattle.trace_model.specs.Words.{words_of, into_word, what_by_words}
 
 abbrev is_space : ℕ → Bool
 is_space byte = eqb byte 32

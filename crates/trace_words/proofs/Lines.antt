@@ -6,11 +6,11 @@ use Rattle.std.proofs.lemmas.Bool.Decides.{nat_tests}
 use Rattle.serde_json.specs.Data.{Data, Members}
 use Rattle.serde_json.specs.Find.{as_object}
 use Rattle.edit_base.specs.declared.bounds.TheConstants.Limits.{LINE_BYTES}
-use Rattle.edit_model.specs.declared.commands.Command.{Command}
-use Rattle.edit_model.specs.declared.faults.TraceFault.{TraceFault}
-use Rattle.edit_model.specs.declared.faults.TraceFault.TheVariants as fault
-use Rattle.edit_model.specs.Reading.{json_of, op_in, read_operation, read_object, read_value, read_command, IsFitting}
-use Rattle.edit_model.proofs.Readings.{fits-read_command}
+use Rattle.trace_model.specs.declared.commands.Command.{Command}
+use Rattle.trace_model.specs.declared.faults.TraceFault.{TraceFault}
+use Rattle.trace_model.specs.declared.faults.TraceFault.TheVariants as fault
+use Rattle.trace_model.specs.Reading.{json_of, op_in, read_operation, read_object, read_value, read_command, IsFitting}
+use Rattle.trace_model.proofs.Readings.{fits-read_command}
 
 pub read_line-object : (line : List ℕ) (value : Data) (members : Members) → length line ≤ LINE_BYTES → json_of line ≡ Some value
     → Some members ≡ as_object value → read_command line ≡ read_operation members (op_in members)

@@ -8,7 +8,7 @@ use Rattle.std.proofs.lemmas.Bool.{and_from, and_parts, cond-true, cond_both, le
 use Rattle.std.proofs.lemmas.Fmt.{digits_value-decimal, parse-decimal}
 use Rattle.std.proofs.lemmas.Slice.Eq.{bytes_eq-Decides}
 use Rattle.std.proofs.lemmas.Str.Parse.{IsNumeralModel, numerals_by_fold, tells_digits}
-use Rattle.edit_model.specs.Words.{digits_value, whole_number, greatest_id}
+use Rattle.trace_model.specs.Words.{digits_value, whole_number, greatest_id}
 
 -- the number of some digits with further ones behind it
 abbrev value_from : ℕ → List ℕ → ℕ

@@ -7,8 +7,8 @@ use Rattle.std.specs.Str.{bytes_eq}
 use Rattle.serde_json.specs.Data.{Members}
 use Rattle.serde_json.specs.View.{members_view}
 use Rattle.serde_json.specs.declared.value.Value.{Value}
-use Rattle.edit_model.specs.Operations.{Field}
-use Rattle.edit_model.specs.Reading.{is_known, has_foreign, is_missing}
+use Rattle.trace_model.specs.Operations.{Field}
+use Rattle.trace_model.specs.Reading.{is_known, has_foreign, is_missing}
 use Rattle.edit_model.proofs.Tests.{list_any-map}
 use Rattle.trace_words.specs.declared.table.OpField.{OpField}
 use Rattle.trace_words.specs.Table.{NamedField, named_field, shown_field, is_foreign, is_absent}

@@ -4,12 +4,12 @@ use Rattle.std.specs.Prelude.{is_some, is_none}
 use Rattle.std.specs.Option.{option_and_then}
 use Rattle.std.specs.List.{list_any}
 use Rattle.serde_json.specs.Data.{Data, Members}
-use Rattle.edit_model.specs.declared.commands.Command.{Command}
-use Rattle.edit_model.specs.declared.faults.TraceFault.TheVariants as fault
-use Rattle.edit_model.specs.declared.operations.Op.{Op}
-use Rattle.edit_model.specs.Operations.{Form, number, text, what, spans, is_number, is_required, Field, operation}
-use Rattle.edit_model.specs.Reading.{number_of, text_of, what_of, value_in, fits, is_missing, lacks_number, lacks_text}
-use Rattle.edit_model.specs.Reading.{first_fault, value_lines, field_lines, unless_fault, command_in}
+use Rattle.trace_model.specs.declared.commands.Command.{Command}
+use Rattle.trace_model.specs.declared.faults.TraceFault.TheVariants as fault
+use Rattle.trace_model.specs.declared.operations.Op.{Op}
+use Rattle.trace_model.specs.Operations.{Form, number, text, what, spans, is_number, is_required, Field, operation}
+use Rattle.trace_model.specs.Reading.{number_of, text_of, what_of, value_in, fits, is_missing, lacks_number, lacks_text}
+use Rattle.trace_model.specs.Reading.{first_fault, value_lines, field_lines, unless_fault, command_in}
 
 -- a value of some form stands
 stands : {X : Type 0} (form : Data → Option X) (value : Option Data) → not (is_some (option_and_then form value)) ≡ false → is_none value ≡ false

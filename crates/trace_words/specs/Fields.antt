@@ -1,7 +1,7 @@
 -- What is found of a field.
 use Rattle.std.specs.Prelude.{◌≡◌, ◌⊎◌, IfOk, IfErr, Option, Some, None, Result}
-use Rattle.edit_model.specs.declared.faults.TraceFault.{TraceFault}
-use Rattle.edit_model.specs.declared.faults.TraceFault.TheVariants as fault
+use Rattle.trace_model.specs.declared.faults.TraceFault.{TraceFault}
+use Rattle.trace_model.specs.declared.faults.TraceFault.TheVariants as fault
 
 -- a number field's value is what was looked for, seen in this way, or there is none
 abbrev pub FindsNumber : {X Y : Type 0} → (X → Y) → Option Y → Result X TraceFault → Type 0

@@ -3,8 +3,8 @@ use Rattle.std.specs.Prelude.{ℕ, ◌&&◌, ◌||◌, List, Bool, not, map, is_
 use Rattle.std.specs.List.{list_any}
 use Rattle.std.specs.Str.{bytes_eq}
 use Rattle.serde_json.specs.Data.{Members}
-use Rattle.edit_model.specs.Operations.{is_required, Field, Operation, operation, ops}
-use Rattle.edit_model.specs.Reading.{value_in}
+use Rattle.trace_model.specs.Operations.{is_required, Field, Operation, operation, ops}
+use Rattle.trace_model.specs.Reading.{value_in}
 use Rattle.trace_words.specs.declared.table.OpField.{OpField}
 
 -- a field's name, and whether the field has to stand

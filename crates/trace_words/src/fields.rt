@@ -3,17 +3,17 @@
 ghost use Rattle.std.specs.Prelude.{◌≡◌, pos, option_map, option_and_then};
 ghost use Rattle.serde_json.specs.Find.{as_str};
 ghost use Rattle.serde_json.specs.View.{view, items_view, members_view};
-ghost use Rattle.edit_model.specs.Words.{as_span};
-ghost use Rattle.edit_model.specs.Reading.{what_of, spans_said, spans_of, value_in};
-ghost use Rattle.edit_model.specs.Reading.{number_found, place_found, count_found, word_found};
-ghost use Rattle.edit_model.specs.Reading.{what_found, text_found, spans_found};
+ghost use Rattle.trace_model.specs.Words.{as_span};
+ghost use Rattle.trace_model.specs.Reading.{what_of, spans_said, spans_of, value_in};
+ghost use Rattle.trace_model.specs.Reading.{number_found, place_found, count_found, word_found};
+ghost use Rattle.trace_model.specs.Reading.{what_found, text_found, spans_found};
 ghost use Rattle.trace_words.specs.Fields.{FindsNumber, FindsText};
 
 use crate::words::{span_from, what_from};
 use edit_base::{Incoming, Items, Limits, NewSpan, What, units_of};
-use edit_model::TraceFault;
 use serde_json::{Map, Value};
 use std::alloc::Global;
+use trace_model::TraceFault;
 
 // An object of JSON.
 pub(crate) type Object = Map<String, Value>;

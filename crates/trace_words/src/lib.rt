@@ -6,9 +6,6 @@ mod reading;
 mod table;
 mod words;
 
-pub use edit_model::{Command, Op, TraceFault};
 pub use reading::read_line;
 pub use table::{OpField, OpTable, op_fields, op_name, op_table};
-
-#[cfg(test)]
-mod tests;
+pub use trace_model::{Command, Op, TraceFault};

@@ -7,20 +7,21 @@ ghost use Rattle.std.specs.List.{list_any};
 ghost use Rattle.std.specs.Str.{bytes_eq};
 ghost use Rattle.serde_json.specs.Find.{as_str};
 ghost use Rattle.serde_json.specs.View.{view, members_view};
-ghost use Rattle.edit_model.specs.Faults.{Gives};
-ghost use Rattle.edit_model.specs.Operations.{operation};
-ghost use Rattle.edit_model.specs.Reading.{json_of, value_in, op_in, has_foreign, is_missing};
-ghost use Rattle.edit_model.specs.Reading.{first_fault, value_lines, field_lines, unless_fault};
-ghost use Rattle.edit_model.specs.Reading.{command_in, incoming_of};
-ghost use Rattle.edit_model.specs.Reading.{read_object, read_command, IsFitting};
+ghost use Rattle.edit_model.specs.Brought.{incoming_of};
+ghost use Rattle.trace_model.specs.Faults.{Gives};
+ghost use Rattle.trace_model.specs.Operations.{operation};
+ghost use Rattle.trace_model.specs.Reading.{json_of, value_in, op_in, has_foreign, is_missing};
+ghost use Rattle.trace_model.specs.Reading.{first_fault, value_lines, field_lines, unless_fault};
+ghost use Rattle.trace_model.specs.Reading.{command_in};
+ghost use Rattle.trace_model.specs.Reading.{read_object, read_command, IsFitting};
 ghost use Rattle.trace_words.specs.Table.{shown_field, is_foreign, is_absent};
 
 use crate::fields::{Object, count_in, member, place_in, spans_in, text_in, what_in, word_in};
 use crate::table::{OpField, op_fields, op_named};
 use edit_base::{Incoming, Items, Limits, NewSpan};
-use edit_model::{Command, Op, TraceFault};
 use serde_json::Value;
 use std::alloc::Global;
+use trace_model::{Command, Op, TraceFault};
 
 /// What a line asks for, or the first fault that applies.
 ///
@@ -28,7 +29,7 @@ use std::alloc::Global;
 ///
 /// The faults are judged in the order of [`TraceFault`]. `NoMemory` may come in place of any other
 /// but `LineTooLong`.
-#[tactic(auto, unfolding(edit_model::specs::Reading::read_command))]
+#[tactic(auto, unfolding(trace_model::specs::Reading::read_command))]
 pub fn read_line(alloc: Global, bytes: &[u8]) -> Result<Command, TraceFault>
     ensures ok { IfOk result (λ asked. read_command bytes.now ≡ Ok asked) }
     ensures err { IfErr result

@@ -3,12 +3,12 @@
 ghost use Rattle.std.specs.Prelude.{◌≡◌, map, length, option_map, option_and_then};
 ghost use Rattle.std.specs.List.{IsDistinct, slice_get};
 ghost use Rattle.std.specs.Str.{bytes_eq};
-ghost use Rattle.edit_model.specs.Operations.{operation, ops};
-ghost use Rattle.edit_model.specs.Reading.{op_named};
+ghost use Rattle.trace_model.specs.Operations.{operation, ops};
+ghost use Rattle.trace_model.specs.Reading.{op_named};
 ghost use Rattle.trace_words.specs.Table.{named_field, shown_field, table};
 
-use edit_model::Op;
 use std::marker::Model;
+use trace_model::Op;
 
 /// A field of an operation.
 #[derive(Clone, Copy, Debug, PartialEq, Eq)]
@@ -123,7 +123,7 @@ pub struct OpTable<const N: usize> {
 
 impl<const N: usize> Model for OpTable<N> {
     ghost use Rattle.std.specs.Prelude.{List, map};
-    ghost use Rattle.edit_model.specs.Operations.{Operation, operation};
+    ghost use Rattle.trace_model.specs.Operations.{Operation, operation};
 
     ghost Value = { List Operation };
 

@@ -3,8 +3,8 @@
 ghost use Rattle.std.specs.Prelude.{◌≡◌, [], ◌∷◌, MatchOption, decimal};
 ghost use Rattle.std.specs.Str.{bytes_eq};
 ghost use Rattle.edit_base.specs.declared.bounds.TheConstants.Limits.{METRIC};
-ghost use Rattle.edit_model.specs.Words.{words_of, whole_number, greatest_id, greatest_byte};
-ghost use Rattle.edit_model.specs.Words.{what_by_words, as_what, ordered_span, span_by_words, as_span};
+ghost use Rattle.trace_model.specs.Words.{words_of, whole_number, greatest_id, greatest_byte};
+ghost use Rattle.trace_model.specs.Words.{what_by_words, as_what, ordered_span, span_by_words, as_span};
 
 use edit_base::{NewSpan, What};
 use itoa::Buffer;

@@ -2,8 +2,6 @@
 #![tactic(auto)]
 
 mod buffer;
-#[cfg(test)]
-mod tests;
 mod text;
 mod work;
 

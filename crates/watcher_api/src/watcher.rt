@@ -11,7 +11,7 @@ use edit_model::{SpanEvent, TextEvent};
 /// The edits that a watcher asks for, in order: at most four, without an allocator.
 pub type Answer = ArrayVec<Edit, 4>;
 
-/// The place on a shelf of the watcher in each slot; at most eight, without an allocator.
+/// The shelf place of the watcher in each slot; at most eight, without an allocator.
 pub type Slots = ArrayVec<usize, 8>;
 
 /// A watcher is told of changes of a text, and may answer with edits of its own.

@@ -10,6 +10,7 @@ mod note;
 mod numbers;
 mod paint;
 mod pair;
+mod rows;
 mod squeeze;
 mod swap;
 mod text;
@@ -21,8 +22,6 @@ pub use limit::Limit;
 pub use note::Note;
 pub use paint::Paint;
 pub use pair::Pair;
+pub use rows::types_are_of_their_kinds;
 pub use squeeze::Squeeze;
 pub use swap::Swap;
-
-#[cfg(test)]
-mod tests;

@@ -16,7 +16,7 @@ use Rattle.edit_model.specs.Rows.{spans_in}
 use Rattle.edit_model.specs.Over.{lies_over, is_picked, is_watch, over}
 use Rattle.edit_model.specs.WellFormed.{HasSlot, IsSeated, IsWellFormed}
 use Rattle.edit_model.specs.Changed.{Effect, change_of, stepped}
-use Rattle.edit_model.specs.Events.{IsCallback, listeners, seats_of, span_event, callbacks, beside, removed_told, moved_told, added_told, spans_told, span_callbacks}
+use Rattle.edit_model.specs.Events.{IsCallback, listeners, slots_of, span_event, callbacks, beside, removed_told, moved_told, added_told, spans_told, span_callbacks}
 use Rattle.edit_model.proofs.SpanLists.{all_each}
 use Rattle.edit_model.proofs.OverLists.{over-among, filter-both}
 use Rattle.edit_model.proofs.SpanEvents.{slots_below, callbacks-edit}
@@ -56,21 +56,21 @@ none_seated state seated = rw (filter-none 0 (length state.units) state.spans se
 -- ---- over a range
 
 pub over_range : (state : State) (start end : ℕ) (seats : List Span) → IsWellFormed state → seats ≡ seats_in state
-    → slots_over start end seats ≡ seats_of (over start end Watches state.spans)
+    → slots_over start end seats ≡ slots_of (over start end Watches state.spans)
 over_range state start end seats formed is =
-    ap (λ seats. slots_over start end seats) is ∙ ap seats_of (over-among state.units state.spans start end Watches formed.spans)
+    ap (λ seats. slots_over start end seats) is ∙ ap slots_of (over-among state.units state.spans start end Watches formed.spans)
 
 -- those are the ones who are told of a replacement's text
 pub told_text : (state : State) (asked : Step) (start end : ℤ) (incoming : Incoming) (s e : ℕ) → asked ≡ ask.Replace start end incoming
-    → s ≡ place start → e ≡ place end → seats_of (over s e Watches state.spans) ≡ listeners state asked
+    → s ≡ place start → e ≡ place end → slots_of (over s e Watches state.spans) ≡ listeners state asked
 unfolding listeners
 told_text state asked start end incoming s e is starts ends = rw is (rw starts (rw ends refl))
 
 pub below_count : (state : State) (count start end : ℕ) (slots : List ℕ) → IsSeated count state.spans
-    → slots ≡ seats_of (over start end Watches state.spans) → All (λ slot. slot < count) slots
+    → slots ≡ slots_of (over start end Watches state.spans) → All (λ slot. slot < count) slots
 below_count state count start end slots seated is =
     subst (λ (slots : List ℕ). All (λ slot. slot < count) slots) (sym is)
-    (all_from_each (λ slot. slot < count) (seats_of (over start end Watches state.spans)) (slots_below count start end state.spans seated))
+    (all_from_each (λ slot. slot < count) (slots_of (over start end Watches state.spans)) (slots_below count start end state.spans seated))
 
 turned : (one other : Bool) → (one && other) ≡ (other && one)
 turned true true = refl
@@ -81,7 +81,7 @@ turned false false = refl
 beside_seats : (state : State) (id start end : ℕ) → IsWellFormed state → slots_beside id start end (seats_in state) ≡ beside id start end state.spans
 beside_seats state id start end formed =
     let other = λ (seat : Span). not (seat.id == id) in
-    ap seats_of (sym (filter-both (lies_over start end) other (λ seat. other seat && lies_over start end seat) (seats_in state)
+    ap slots_of (sym (filter-both (lies_over start end) other (λ seat. other seat && lies_over start end seat) (seats_in state)
     (all_each (λ seat. (lies_over start end seat && other seat) ≡ (other seat && lies_over start end seat))
     (λ seat. turned (lies_over start end seat) (other seat)) (seats_in state)))
     ∙ ap (λ seats. filter other seats) (over-among state.units state.spans start end Watches formed.spans))

@@ -14,9 +14,9 @@ use Rattle.edit_model.specs.Verdicts.{judged}
 use Rattle.edit_model.specs.Changed.{Effect, change_of, stepped, on_done}
 use Rattle.edit_model.specs.Minds.{Mind}
 use Rattle.edit_model.specs.Events.{listeners, text_event, span_callbacks}
-use Rattle.edit_model.specs.Machine.{Setup, Scene, Task, at, Leads, Passes, run_item, do_rest, make_change, tell_before, tell_changed, tell_after, rest_of, asked_by, resolved, is_barred, as_brought, edit_entry, events, sets_off, answer_begun, edit_logged}
+use Rattle.edit_model.specs.Machine.{Setup, Scene, Task, at, Leads, Passes, run_item, do_rest, make_change, tell_before, tell_changed, tell_after, rest_of, resolved_edit, resolved, is_barred, as_brought, edit_entry, events, sets_off, answer_begun, edit_logged}
 use Rattle.edit_model.proofs.MachineRuns.{leads_on, leads_behind, leads_then, leads_first, leads_none, nothing_unless_done}
-use Rattle.watcher_rounds.specs.Rounds.{tell_one, Takes, stands, Tells, Led, Passed, Runs, ComesThrough}
+use Rattle.watcher_rounds.specs.Rounds.{tell_one, Takes, TakesLast, last_of, stands, Tells, Led, Passed, Runs, ComesThrough}
 use Rattle.watcher_rounds.proofs.Judgements.{judged-let_in}
 use Rattle.watcher_rounds.proofs.Runs.{tells_behind, passes_on, passes_here, passed_here, passed_behind, passed_told, passed_then}
 
@@ -25,6 +25,20 @@ use Rattle.watcher_rounds.proofs.Runs.{tells_behind, passes_on, passes_here, pas
 pub record AreLaws {F : Type 0} (takes : Takes F) : Type 0 where
   pub none : (it : F) → takes it [] it
   pub both : (first second third : F) (here there : List Effect) → takes first here second → takes second there third → takes first (here ++ there) third
+
+-- where they hold of a follower, they hold of it and what the text tells of
+last_of-append : (here there : List Effect) (before : Effect) → last_of (here ++ there) before ≡ last_of there (last_of here before)
+last_of-append [] there before = refl
+last_of-append (effect ∷ here) there before = last_of-append here there effect
+
+pub laws_with_last : {F : Type 0} {takes : Takes F} → AreLaws takes → AreLaws (TakesLast takes)
+laws_with_last laws = record {
+  none = λ it. (laws.none it.0, refl);
+  both = λ first second third here there one other. (
+    laws.both first.0 second.0 third.0 here there one.0 other.0,
+    other.1 ∙ (ap (λ (before : Effect). last_of there before) one.1 ∙ sym (last_of-append here there first.1)),
+  );
+}
 
 -- ---- leading on
 
@@ -273,15 +287,15 @@ passed_item r it asked found verdict state minds log new begun asks logs let_in 
 tells_barred : (r : Setup) (first : Edit) (others : List Edit) (depth : ℕ) (state : State) (minds : List Mind) (log : List LogEntry) (begun : ℕ)
     → is_barred r.depth depth begun ≡ true
     → Tells r (do_rest first others depth ∷ []) [] (stands state minds log begun)
-    (stands state minds (log ++ edit_entry r depth (asked_by first) state begun ∷ []) begun)
+    (stands state minds (log ++ edit_entry r depth (resolved_edit first) state begun ∷ []) begun)
 tells_barred r first others depth state minds log begun barred = record {
   run = λ effects. leads_first (λ rest.
-      ap (λ b. cond b (at (edit_logged r depth (asked_by first) (stands state minds log begun effects)) rest)
-      (answer_begun r (asked_by first) others depth (stands state minds log begun effects) rest)) barred);
+      ap (λ b. cond b (at (edit_logged r depth (resolved_edit first) (stands state minds log begun effects)) rest)
+      (answer_begun r (resolved_edit first) others depth (stands state minds log begun effects) rest)) barred);
 }
 
 pub led_barred : {F : Type 0} {takes : Takes F} → AreLaws takes → (r : Setup) (first : Edit) (others : List Edit) (depth : ℕ) (asked : Step)
-    (state : State) (minds : List Mind) (log new : List LogEntry) (begun : ℕ) (x : F) → asked ≡ asked_by first
+    (state : State) (minds : List Mind) (log new : List LogEntry) (begun : ℕ) (x : F) → asked ≡ resolved_edit first
     → new ≡ log ++ edit_entry r depth asked state begun ∷ [] → is_barred r.depth depth begun ≡ true
     → Led takes r (do_rest first others depth ∷ []) [] (stands state minds log begun) (stands state minds new begun) x x
 led_barred {takes = takes} laws r first others depth asked state minds log new begun x asks logs barred =
@@ -292,18 +306,18 @@ led_barred {takes = takes} laws r first others depth asked state minds log new b
 -- and one that is not
 tells_begun : (r : Setup) (first : Edit) (others : List Edit) (depth : ℕ) (state : State) (minds : List Mind) (log : List LogEntry) (begun : ℕ)
     → is_barred r.depth depth begun ≡ false
-    → Tells r (do_rest first others depth ∷ []) (sets_off r depth (asked_by first) state begun ++ rest_of others depth) (stands state minds log begun)
-    (stands state minds (log ++ edit_entry r depth (asked_by first) state begun ∷ []) (begun + 1))
+    → Tells r (do_rest first others depth ∷ []) (sets_off r depth (resolved_edit first) state begun ++ rest_of others depth) (stands state minds log begun)
+    (stands state minds (log ++ edit_entry r depth (resolved_edit first) state begun ∷ []) (begun + 1))
 tells_begun r first others depth state minds log begun let_in = record {
   run = λ effects. leads_first (λ rest.
-      ap (λ b. cond b (at (edit_logged r depth (asked_by first) (stands state minds log begun effects)) rest)
-      (answer_begun r (asked_by first) others depth (stands state minds log begun effects) rest)) let_in
-      ∙ ap (λ (ts : List Task). at (stands state minds (log ++ edit_entry r depth (asked_by first) state begun ∷ []) (begun + 1) effects) ts)
-      (sym (append_assoc (sets_off r depth (asked_by first) state begun) (rest_of others depth) rest)));
+      ap (λ b. cond b (at (edit_logged r depth (resolved_edit first) (stands state minds log begun effects)) rest)
+      (answer_begun r (resolved_edit first) others depth (stands state minds log begun effects) rest)) let_in
+      ∙ ap (λ (ts : List Task). at (stands state minds (log ++ edit_entry r depth (resolved_edit first) state begun ∷ []) (begun + 1) effects) ts)
+      (sym (append_assoc (sets_off r depth (resolved_edit first) state begun) (rest_of others depth) rest)));
 }
 
 tells_judged : (r : Setup) (first : Edit) (others : List Edit) (depth : ℕ) (asked found : Step) (verdict : Verdict) (state : State) (minds : List Mind)
-    (log new : List LogEntry) (begun : ℕ) → asked ≡ asked_by first → new ≡ log ++ edit_entry r depth asked state begun ∷ []
+    (log new : List LogEntry) (begun : ℕ) → asked ≡ resolved_edit first → new ≡ log ++ edit_entry r depth asked state begun ∷ []
     → is_barred r.depth depth begun ≡ false
     → found ≡ as_brought r asked state → verdict ≡ judged state (length r.slots) found
     → Tells r (do_rest first others depth ∷ []) (on_done verdict (events state depth found) [] ++ rest_of others depth) (stands state minds log begun)
@@ -319,7 +333,7 @@ tells_judged r first others depth asked found verdict state minds log new begun 
     (tells_begun r first others depth state minds log begun let_in)))
 
 pub led_begun : {F : Type 0} {takes : Takes F} {b : List Effect → Scene} {x y : F} (r : Setup) (first : Edit) (others : List Edit) (depth : ℕ)
-    (asked found : Step) (verdict : Verdict) (state : State) (minds : List Mind) (log new : List LogEntry) (begun : ℕ) → asked ≡ asked_by first
+    (asked found : Step) (verdict : Verdict) (state : State) (minds : List Mind) (log new : List LogEntry) (begun : ℕ) → asked ≡ resolved_edit first
     → new ≡ log ++ edit_entry r depth asked state begun ∷ [] → is_barred r.depth depth begun ≡ false → found ≡ as_brought r asked state
     → verdict ≡ judged state (length r.slots) found
     → Led takes r (on_done verdict (events state depth found) []) [] (stands state minds new (begun + 1)) b x y
@@ -329,7 +343,7 @@ led_begun r first others depth asked found verdict state minds log new begun ask
 
 pub passed_begun : {b : List Effect → Scene} (r : Setup) (first : Edit) (others : List Edit) (depth : ℕ) (asked found : Step) (verdict : Verdict)
     (state : State)
-    (minds : List Mind) (log new : List LogEntry) (begun : ℕ) → asked ≡ asked_by first → new ≡ log ++ edit_entry r depth asked state begun ∷ []
+    (minds : List Mind) (log new : List LogEntry) (begun : ℕ) → asked ≡ resolved_edit first → new ≡ log ++ edit_entry r depth asked state begun ∷ []
     → is_barred r.depth depth begun ≡ false → found ≡ as_brought r asked state → verdict ≡ judged state (length r.slots) found
     → Passed r (on_done verdict (events state depth found) []) (stands state minds new (begun + 1)) b
     → Passed r (do_rest first others depth ∷ []) (stands state minds log begun) b
@@ -379,9 +393,9 @@ led_from {takes = takes} {r = r} {left = left} {a = a} {b = b} {x = x} {y = y} e
 
 -- ---- the run of an item
 
-pub runs_led : {F : Type 0} {takes : Takes F} {r : Setup} {it : Item} {a b : List Effect → Scene} {x y : F}
-    → Led takes r (run_item it ∷ []) [] a b x y → Runs takes r it a b x y
-runs_led led = record { effects = led.effects; taken = led.taken; ends = (led.run []).run [] }
+abbrev pub runs_led : {F : Type 0} {takes : Takes F} {r : Setup} {it : Item} {a b : List Effect → Scene} {x y : F × Effect}
+    → Led (TakesLast takes) r (run_item it ∷ []) [] a b x y → Runs takes r it a b x.0 y.0
+runs_led led = record { effects = led.effects; taken = led.taken.0; ends = (led.run []).run [] }
 
 pub comes_passed : {r : Setup} {it : Item} {a b : List Effect → Scene} → Passed r (run_item it ∷ []) a b → ComesThrough r it a b
 comes_passed passed = record { effects = passed.effects; agenda = ((passed.run []).run []).0; reaches = ((passed.run []).run []).1 }

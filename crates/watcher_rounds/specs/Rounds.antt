@@ -1,5 +1,5 @@
 -- The scenes that calls leave, and how runs of the agenda machine lead from one to another.
-use Rattle.std.specs.Prelude.{ℕ, ◌≤◌, ◌<◌, ◌++◌, List, [], ◌∷◌, length}
+use Rattle.std.specs.Prelude.{ℕ, ◌≡◌, ◌≤◌, ◌<◌, ◌++◌, List, [], ◌∷◌, length}
 use Rattle.std.specs.List.{All}
 use Rattle.edit_base.specs.declared.bounds.TheConstants.Limits.{NESTED_EDITS}
 use Rattle.edit_model.specs.declared.entries.LogEntry.{LogEntry}
@@ -14,11 +14,11 @@ use Rattle.edit_model.specs.Machine.{Setup, Scene, Task, at, run_item, tell_span
 use Rattle.watcher_rounds.specs.declared.round.Round.{Round}
 
 -- what the machine is set to
-abbrev pub setup : List Filter → List ℕ → ℕ → Setup
-setup filters slots depth = record { filters = filters; slots = slots; depth = depth }
+abbrev pub setup_with : List Filter → List ℕ → ℕ → Setup
+setup_with filters slots depth = record { filters = filters; slots = slots; depth = depth }
 
 abbrev pub setup_of : Round → Setup
-setup_of round = setup round.filters.now round.slots.now.items round.depth
+setup_of round = setup_with round.filters.now round.slots.now.items round.depth
 
 -- how many slots there are
 abbrev pub slot_count : Round → ℕ
@@ -39,7 +39,7 @@ abbrev pub AreOnShelf : List ℕ → List Mind → Type 0
 AreOnShelf places minds = All (λ place. place < length minds) places
 
 -- each seat has a slot, each slot's watcher stands on the shelf, and no more nested edits have begun than may
-pub record IsReady (places : List ℕ) (state : State) (minds : List Mind) (begun : ℕ) : Type 0 where
+pub record MayRun (places : List ℕ) (state : State) (minds : List Mind) (begun : ℕ) : Type 0 where
   pub seated : IsSeated (length places) state.spans
   pub on_shelf : AreOnShelf places minds
   pub few : begun ≤ NESTED_EDITS
@@ -49,6 +49,15 @@ pub record IsReady (places : List ℕ) (state : State) (minds : List Mind) (begu
 -- what a follower says of effects: told of in their order, they take one value of it to another
 abbrev pub Takes : Type 0 → Type 1
 Takes F = F → List Effect → F → Type 0
+
+-- the last of some effects, or the one before them where there are none
+abbrev pub last_of : List Effect → Effect → Effect
+last_of [] before = before
+last_of (effect ∷ effects) before = last_of effects effect
+
+-- some effects take a follower from one value to another, and the last of them is what the text tells of then
+abbrev pub TakesLast : {F : Type 0} → Takes F → Takes (F × Effect)
+TakesLast takes old effects new = takes old.0 effects new.0 × (new.1 ≡ last_of effects old.1)
 
 -- whatever effects there were, these tasks lead on without one more
 pub record Tells (r : Setup) (tasks left : List Task) (old new : List Effect → Scene) : Type 0 where

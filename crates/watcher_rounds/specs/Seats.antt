@@ -8,7 +8,7 @@ use Rattle.edit_model.specs.declared.events.SpanCallback.{SpanCallback}
 use Rattle.edit_model.specs.State.{Span, State}
 use Rattle.edit_model.specs.Over.{lies_over, over}
 use Rattle.edit_model.specs.Changed.{Shift, Effect}
-use Rattle.edit_model.specs.Events.{seats_of, span_event, callbacks}
+use Rattle.edit_model.specs.Events.{slots_of, span_event, callbacks}
 
 -- all seats of a state, in a query's order
 abbrev pub seats_in : State → List Span
@@ -16,11 +16,11 @@ seats_in state = over 0 (length state.units) Watches state.spans
 
 -- the slots of those seats that lie over a range
 abbrev pub slots_over : ℕ → ℕ → List Span → List ℕ
-slots_over start end seats = seats_of (filter (lies_over start end) seats)
+slots_over start end seats = slots_of (filter (lies_over start end) seats)
 
 -- but for a seat that is the span itself
 abbrev pub slots_beside : ℕ → ℕ → ℕ → List Span → List ℕ
-slots_beside id start end seats = seats_of (filter (λ seat. not (seat.id == id) && lies_over start end seat) seats)
+slots_beside id start end seats = slots_of (filter (λ seat. not (seat.id == id) && lies_over start end seat) seats)
 
 -- what those seats are told of a span that is where it was
 abbrev pub told_there : ℕ → SpanChange → List Span → Span → List SpanCallback

@@ -11,7 +11,7 @@ ghost use Rattle.edit_model.specs.Laws.{BringsOrdered};
 ghost use Rattle.edit_model.specs.Minds.{IsTold};
 ghost use Rattle.edit_model.specs.Events.{IsCallback};
 ghost use Rattle.edit_model.specs.Machine.{tell_after, events};
-ghost use Rattle.watcher_rounds.specs.Rounds.{setup_of, slot_count, stands, tell_one, IsReady, Led, Passed};
+ghost use Rattle.watcher_rounds.specs.Rounds.{setup_of, slot_count, stands, tell_one, MayRun, TakesLast, Led, Passed};
 
 use crate::logging::Judged;
 use crate::round::{Log, Round};
@@ -52,13 +52,14 @@ pub fn carry_out<S: Shelf, F: Follower, L: Ledger>(
     requires verdict { found.now.verdict ≡ judged text.old.state (slot_count round.now) found.now.brought }
     requires fitting { IsFittingStep found.now.brought }
     requires ordered { BringsOrdered text.old.state found.now.brought }
-    requires ready { IsReady round.now.slots.now.items text.old.state (S.minds shelf.old) spent }
+    requires ready { MayRun round.now.slots.now.items text.old.state (S.minds shelf.old) spent }
     requires followed { F.follows follower.old text.old.state }
-    ensures ok { IfOk result (λ told. Led F.takes (setup_of round.now)
+    ensures ok { IfOk result (λ told. Led (TakesLast F.takes) (setup_of round.now)
         (on_done found.now.verdict (events text.old.state depth found.now.brought) [])
         (map (λ slot. tell_after slot told.event) told.slots.items ++ map tell_one told.spans.items)
         (stands text.old.state (S.minds shelf.old) log.old.items spent)
-        (stands text.new.state (S.minds shelf.new) log.new.items spent) follower.old follower.new) }
+        (stands text.new.state (S.minds shelf.new) log.new.items spent)
+        (follower.old, text.old.effect) (follower.new, text.new.effect)) }
     ensures err { OnErr result (Passed (setup_of round.now)
         (on_done found.now.verdict (events text.old.state depth found.now.brought) [])
         (stands text.old.state (S.minds shelf.old) log.old.items spent)
@@ -67,7 +68,7 @@ pub fn carry_out<S: Shelf, F: Follower, L: Ledger>(
     ensures told { IfOk result (λ told. IsTold told.event) }
     ensures depth { IfOk result (λ told. told.event.depth ≡ depth) }
     ensures spans { IfOk result (λ told. All (IsCallback (slot_count round.now) depth) told.spans.items) }
-    ensures ready { IsReady round.now.slots.now.items text.new.state (S.minds shelf.new) spent }
+    ensures ready { MayRun round.now.slots.now.items text.new.state (S.minds shelf.new) spent }
     ensures followed { OnOk result (F.follows follower.new text.new.state) }
     ensures layout_ground { F.layout_ground follower.new ≡ F.layout_ground follower.old }
 {

@@ -3,7 +3,7 @@
 ghost use Rattle.std.specs.Prelude.{ℕ, ◌≡◌, ◌≤◌, ◌<◌, true, false};
 ghost use Rattle.edit_base.specs.declared.verdicts.Verdict.TheVariants.{Refused};
 ghost use Rattle.edit_base.specs.declared.verdicts.Refusal.TheVariants.{SpansFull};
-ghost use Rattle.edit_model.specs.declared.steps.Step.{Step as Asked};
+ghost use Rattle.edit_model.specs.declared.steps.Step.{Step as EditStep};
 ghost use Rattle.edit_model.specs.State.{State, place};
 ghost use Rattle.edit_model.specs.Replaced.{spliced_length};
 ghost use Rattle.edit_model.specs.Verdicts.{judged};
@@ -11,10 +11,10 @@ ghost use Rattle.edit_model.specs.Log.{length_of, span_count_of, verdict_number,
 ghost use Rattle.edit_model.specs.Fitting.{IsFittingStep};
 ghost use Rattle.edit_model.specs.Machine.{is_barred, judged_at};
 
-use crate::asking::place_of;
 use edit_base::{Incoming, Limits, Refusal, Verdict};
 use edit_model::{Logged, Step};
 use replace_engine::SpannedText;
+use span_flags::place_of;
 
 /// Whether a nested edit is refused for its depth, or for the number that have begun.
 #[tactic(auto, unfolding(edit_model::specs::Machine::is_barred))]
@@ -30,8 +30,8 @@ pub fn is_barred(limit: u32, depth: u32, begun: u32) -> bool
 #[tactic(auto, unfolding(edit_model::specs::Machine::is_barred, edit_model::specs::Machine::judged_at))]
 pub fn barring(limit: u32, depth: u32, begun: u32) -> Logged
     requires { is_barred limit depth begun ≡ true }
-    ensures { (state : State) (slots : ℕ) (asked : Asked)
-        → result ≡ logged state asked (judged_at state slots limit depth begun asked) }
+    ensures { (state : State) (slots : ℕ) (edit : EditStep)
+        → result ≡ logged state edit (judged_at state slots limit depth begun edit) }
 {
     let refusal = if depth > limit {
         Refusal::Depth

@@ -9,8 +9,8 @@ ghost use Rattle.edit_model.specs.Laws.{BringsOrdered};
 ghost use Rattle.edit_model.specs.Machine.{is_barred, as_brought, edit_entry};
 ghost use Rattle.watcher_rounds.specs.Rounds.{setup_of, slot_count};
 
-use crate::asking::bring;
 use crate::judging::{barring, judge};
+use crate::resolving::bring;
 use crate::round::{Log, Round};
 use edit_base::{NoMemory, Verdict};
 use edit_model::{LogEntry, Logged, Step};

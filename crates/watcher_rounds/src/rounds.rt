@@ -2,22 +2,23 @@
 
 ghost use Rattle.std.specs.Prelude.{◌≡◌, ◌≤◌, ◌<◌, ◌+◌, List, [], ◌∷◌, length, map, if◌then◌else◌, OnOk, OnErr, IfOk};
 ghost use Rattle.std.specs.List.{All};
-ghost use Rattle.edit_base.specs.declared.edits.Edit.{Edit as Asked};
+ghost use Rattle.edit_base.specs.declared.edits.Edit.{Edit as AnswerEdit};
 ghost use Rattle.edit_model.specs.Verdicts.{judged};
 ghost use Rattle.edit_model.specs.Changed.{on_done};
 ghost use Rattle.edit_model.specs.Minds.{IsTold};
-ghost use Rattle.edit_model.specs.Fitting.{IsFittingStep, IsFittingItem, IsReady as HasTurn};
+ghost use Rattle.edit_model.specs.Fitting.{IsFittingStep, IsFittingItem, HasTurn};
 ghost use Rattle.edit_model.specs.Laws.{BringsOrdered};
 ghost use Rattle.edit_model.specs.Events.{IsCallback};
 ghost use Rattle.edit_model.specs.Machine.{run_item, do_rest, tell_after, tell_span, rest_of, resolved, verdict_at, events};
+ghost use Rattle.edit_model.specs.Outcome.{outcome};
 ghost use Rattle.edit_model.specs.WellFormed.{IsSeated};
-ghost use Rattle.watcher_rounds.specs.Rounds.{setup, tell_one, Runs, ComesThrough, setup_of, slot_count, stands, IsReady, Led, Passed};
+ghost use Rattle.watcher_rounds.specs.Rounds.{setup_with, tell_one, last_of, Runs, ComesThrough, setup_of, slot_count, stands, MayRun, TakesLast, Led, Passed};
 
-use crate::asking::{ask, resolve};
 use crate::changing::carry_out;
 use crate::judging::is_barred;
 use crate::logging::{Judged, judge_and_log, log_barred};
-use crate::round::{Log, Round, Slots};
+use crate::resolving::{resolve, resolve_edit};
+use crate::round::{Log, Round};
 use crate::shelf::Shelf;
 use crate::telling::{tell_after, tell_span};
 use edit_base::{Edit, Limits, NoMemory, Steps, Verdict};
@@ -25,16 +26,17 @@ use edit_model::{Filter, Item, SpanCallback, TextEvent};
 use replace_engine::{Follower, SpannedText};
 use std::alloc::Global;
 use std::sync::ledger::Ledger;
-use watcher_api::{Answer, Watcher};
+use watcher_api::{Answer, Slots, Watcher};
 
 /// Runs one item of a command, with all its callbacks and nested edits, and answers the item's own verdict.
 ///
-/// `slots` has for each slot the place on the shelf of its watcher. `depth` is the greatest depth of a nested edit, and
+/// `slots` has for each slot the shelf place of its watcher. `depth` is the greatest depth of a nested edit, and
 /// `spent` is the number of nested edits that have begun in this command. Edits bring their texts through `filters`. An
 /// item's places are read at its turn: a connection's go to the start or the end of the text that stands then, and a region
 /// may be marked where none is attached.
 /// What is left behind is what the agenda machine's run of the item leaves: text, minds, log and `spent`. The follower
 /// is told of each change, nested or not, before any watcher is told that it was made, and of nothing else, in order.
+/// What the text tells of then is the last change of the run, or what it told of before where the run changed nothing.
 ///
 /// Without memory text, minds, log and `spent` are those of a scene that the run comes through.
 pub fn apply<F: Follower, L: Ledger>(
@@ -57,13 +59,15 @@ pub fn apply<F: Follower, L: Ledger>(
     requires follows { F.follows follower.old text.old.state }
     requires item { IsFittingItem item.now }
     requires ready { HasTurn text.old.state item.now }
-    ensures verdict { IfOk result (λ verdict. verdict ≡ verdict_at (setup filters.now slots.now.items depth) 0
+    ensures verdict { IfOk result (λ verdict. verdict ≡ verdict_at (setup_with filters.now slots.now.items depth) 0
         (resolved text.old.state item.now) text.old.state spent.old) }
-    ensures ok { OnOk result (Runs F.takes (setup filters.now slots.now.items depth) item.now
+    ensures ok { OnOk result (Runs F.takes (setup_with filters.now slots.now.items depth) item.now
         (stands text.old.state (map (λ b. mind b) shelf.old.items) log.old.items spent.old)
         (stands text.new.state (map (λ b. mind b) shelf.new.items) log.new.items spent.new)
         follower.old follower.new) }
-    ensures err { OnErr result (ComesThrough (setup filters.now slots.now.items depth) item.now
+    ensures change { OnOk result (text.new.effect ≡ last_of (outcome (setup_with filters.now slots.now.items depth) item.now
+        (stands text.old.state (map (λ b. mind b) shelf.old.items) log.old.items spent.old [])).effects text.old.effect) }
+    ensures err { OnErr result (ComesThrough (setup_with filters.now slots.now.items depth) item.now
         (stands text.old.state (map (λ b. mind b) shelf.old.items) log.old.items spent.old)
         (stands text.new.state (map (λ b. mind b) shelf.new.items) log.new.items spent.new)) }
     ensures follows { OnOk result (F.follows follower.new text.new.state) }
@@ -96,16 +100,17 @@ fn do_item<S: Shelf, F: Follower, L: Ledger>(
 ) -> Result<Verdict, NoMemory>
     requires fitting { IsFittingItem item.now }
     requires turn { HasTurn text.old.state item.now }
-    requires ready { IsReady round.now.slots.now.items text.old.state (S.minds shelf.old) spent.old }
+    requires ready { MayRun round.now.slots.now.items text.old.state (S.minds shelf.old) spent.old }
     requires limit { round.now.depth ≤ Limits.DEPTH }
     requires followed { F.follows follower.old text.old.state }
-    ensures ok { OnOk result (Led F.takes (setup_of round.now) (run_item item.now ∷ []) []
+    ensures ok { OnOk result (Led (TakesLast F.takes) (setup_of round.now) (run_item item.now ∷ []) []
         (stands text.old.state (S.minds shelf.old) log.old.items spent.old)
-        (stands text.new.state (S.minds shelf.new) log.new.items spent.new) follower.old follower.new) }
+        (stands text.new.state (S.minds shelf.new) log.new.items spent.new)
+        (follower.old, text.old.effect) (follower.new, text.new.effect)) }
     ensures err { OnErr result (Passed (setup_of round.now) (run_item item.now ∷ [])
         (stands text.old.state (S.minds shelf.old) log.old.items spent.old)
         (stands text.new.state (S.minds shelf.new) log.new.items spent.new)) }
-    ensures ready { IsReady round.now.slots.now.items text.new.state (S.minds shelf.new) spent.new }
+    ensures ready { MayRun round.now.slots.now.items text.new.state (S.minds shelf.new) spent.new }
     ensures followed { OnOk result (F.follows follower.new text.new.state) }
     ensures layout_ground { F.layout_ground follower.new ≡ F.layout_ground follower.old }
     ensures verdict { IfOk result (λ verdict. verdict
@@ -137,18 +142,19 @@ fn set_off<S: Shelf, F: Follower, L: Ledger>(
     requires fitting { IsFittingStep found.now.brought }
     requires ordered { BringsOrdered text.old.state found.now.brought }
     requires depth { depth ≤ round.now.depth }
-    requires ready { IsReady round.now.slots.now.items text.old.state (S.minds shelf.old) spent.old }
+    requires ready { MayRun round.now.slots.now.items text.old.state (S.minds shelf.old) spent.old }
     requires limit { round.now.depth ≤ Limits.DEPTH }
     requires followed { F.follows follower.old text.old.state }
-    ensures ok { OnOk result (Led F.takes (setup_of round.now)
+    ensures ok { OnOk result (Led (TakesLast F.takes) (setup_of round.now)
         (on_done found.now.verdict (events text.old.state depth found.now.brought) []) []
         (stands text.old.state (S.minds shelf.old) log.old.items spent.old)
-        (stands text.new.state (S.minds shelf.new) log.new.items spent.new) follower.old follower.new) }
+        (stands text.new.state (S.minds shelf.new) log.new.items spent.new)
+        (follower.old, text.old.effect) (follower.new, text.new.effect)) }
     ensures err { OnErr result (Passed (setup_of round.now)
         (on_done found.now.verdict (events text.old.state depth found.now.brought) [])
         (stands text.old.state (S.minds shelf.old) log.old.items spent.old)
         (stands text.new.state (S.minds shelf.new) log.new.items spent.new)) }
-    ensures ready { IsReady round.now.slots.now.items text.new.state (S.minds shelf.new) spent.new }
+    ensures ready { MayRun round.now.slots.now.items text.new.state (S.minds shelf.new) spent.new }
     ensures followed { OnOk result (F.follows follower.new text.new.state) }
     ensures layout_ground { F.layout_ground follower.new ≡ F.layout_ground follower.old }
 {
@@ -201,16 +207,17 @@ fn ask_all<S: Shelf, F: Follower, L: Ledger>(
     requires slots { All (λ slot. slot < slot_count round.now) slots.now }
     requires event { IsTold event.now }
     requires depth { event.now.depth ≤ round.now.depth }
-    requires ready { IsReady round.now.slots.now.items text.old.state (S.minds shelf.old) spent.old }
+    requires ready { MayRun round.now.slots.now.items text.old.state (S.minds shelf.old) spent.old }
     requires limit { round.now.depth ≤ Limits.DEPTH }
     requires followed { F.follows follower.old text.old.state }
-    ensures ok { OnOk result (Led F.takes (setup_of round.now) (map (λ slot. tell_after slot event.now) slots.now) []
+    ensures ok { OnOk result (Led (TakesLast F.takes) (setup_of round.now) (map (λ slot. tell_after slot event.now) slots.now) []
         (stands text.old.state (S.minds shelf.old) log.old.items spent.old)
-        (stands text.new.state (S.minds shelf.new) log.new.items spent.new) follower.old follower.new) }
+        (stands text.new.state (S.minds shelf.new) log.new.items spent.new)
+        (follower.old, text.old.effect) (follower.new, text.new.effect)) }
     ensures err { OnErr result (Passed (setup_of round.now) (map (λ slot. tell_after slot event.now) slots.now)
         (stands text.old.state (S.minds shelf.old) log.old.items spent.old)
         (stands text.new.state (S.minds shelf.new) log.new.items spent.new)) }
-    ensures ready { IsReady round.now.slots.now.items text.new.state (S.minds shelf.new) spent.new }
+    ensures ready { MayRun round.now.slots.now.items text.new.state (S.minds shelf.new) spent.new }
     ensures followed { OnOk result (F.follows follower.new text.new.state) }
     ensures layout_ground { F.layout_ground follower.new ≡ F.layout_ground follower.old }
 {
@@ -239,16 +246,17 @@ fn ask_one<S: Shelf, F: Follower, L: Ledger>(
     requires slot { slot < slot_count round.now }
     requires event { IsTold event.now }
     requires depth { event.now.depth ≤ round.now.depth }
-    requires ready { IsReady round.now.slots.now.items text.old.state (S.minds shelf.old) spent.old }
+    requires ready { MayRun round.now.slots.now.items text.old.state (S.minds shelf.old) spent.old }
     requires limit { round.now.depth ≤ Limits.DEPTH }
     requires followed { F.follows follower.old text.old.state }
-    ensures ok { OnOk result (Led F.takes (setup_of round.now) (tell_after slot event.now ∷ []) []
+    ensures ok { OnOk result (Led (TakesLast F.takes) (setup_of round.now) (tell_after slot event.now ∷ []) []
         (stands text.old.state (S.minds shelf.old) log.old.items spent.old)
-        (stands text.new.state (S.minds shelf.new) log.new.items spent.new) follower.old follower.new) }
+        (stands text.new.state (S.minds shelf.new) log.new.items spent.new)
+        (follower.old, text.old.effect) (follower.new, text.new.effect)) }
     ensures err { OnErr result (Passed (setup_of round.now) (tell_after slot event.now ∷ [])
         (stands text.old.state (S.minds shelf.old) log.old.items spent.old)
         (stands text.new.state (S.minds shelf.new) log.new.items spent.new)) }
-    ensures ready { IsReady round.now.slots.now.items text.new.state (S.minds shelf.new) spent.new }
+    ensures ready { MayRun round.now.slots.now.items text.new.state (S.minds shelf.new) spent.new }
     ensures followed { OnOk result (F.follows follower.new text.new.state) }
     ensures layout_ground { F.layout_ground follower.new ≡ F.layout_ground follower.old }
 {
@@ -283,16 +291,17 @@ fn ask_of_spans<S: Shelf, F: Follower, L: Ledger>(
 ) -> Result<(), NoMemory>
     requires callbacks { All (IsCallback (slot_count round.now) depth) told.now }
     requires depth { depth ≤ round.now.depth }
-    requires ready { IsReady round.now.slots.now.items text.old.state (S.minds shelf.old) spent.old }
+    requires ready { MayRun round.now.slots.now.items text.old.state (S.minds shelf.old) spent.old }
     requires limit { round.now.depth ≤ Limits.DEPTH }
     requires followed { F.follows follower.old text.old.state }
-    ensures ok { OnOk result (Led F.takes (setup_of round.now) (map tell_one told.now) []
+    ensures ok { OnOk result (Led (TakesLast F.takes) (setup_of round.now) (map tell_one told.now) []
         (stands text.old.state (S.minds shelf.old) log.old.items spent.old)
-        (stands text.new.state (S.minds shelf.new) log.new.items spent.new) follower.old follower.new) }
+        (stands text.new.state (S.minds shelf.new) log.new.items spent.new)
+        (follower.old, text.old.effect) (follower.new, text.new.effect)) }
     ensures err { OnErr result (Passed (setup_of round.now) (map tell_one told.now)
         (stands text.old.state (S.minds shelf.old) log.old.items spent.old)
         (stands text.new.state (S.minds shelf.new) log.new.items spent.new)) }
-    ensures ready { IsReady round.now.slots.now.items text.new.state (S.minds shelf.new) spent.new }
+    ensures ready { MayRun round.now.slots.now.items text.new.state (S.minds shelf.new) spent.new }
     ensures followed { OnOk result (F.follows follower.new text.new.state) }
     ensures layout_ground { F.layout_ground follower.new ≡ F.layout_ground follower.old }
 {
@@ -319,16 +328,17 @@ fn ask_of_span<S: Shelf, F: Follower, L: Ledger>(
 ) -> Result<(), NoMemory>
     requires callback { IsCallback (slot_count round.now) callback.now.event.depth callback.now }
     requires depth { callback.now.event.depth ≤ round.now.depth }
-    requires ready { IsReady round.now.slots.now.items text.old.state (S.minds shelf.old) spent.old }
+    requires ready { MayRun round.now.slots.now.items text.old.state (S.minds shelf.old) spent.old }
     requires limit { round.now.depth ≤ Limits.DEPTH }
     requires followed { F.follows follower.old text.old.state }
-    ensures ok { OnOk result (Led F.takes (setup_of round.now) (tell_span callback.now.slot callback.now.event ∷ []) []
+    ensures ok { OnOk result (Led (TakesLast F.takes) (setup_of round.now) (tell_span callback.now.slot callback.now.event ∷ []) []
         (stands text.old.state (S.minds shelf.old) log.old.items spent.old)
-        (stands text.new.state (S.minds shelf.new) log.new.items spent.new) follower.old follower.new) }
+        (stands text.new.state (S.minds shelf.new) log.new.items spent.new)
+        (follower.old, text.old.effect) (follower.new, text.new.effect)) }
     ensures err { OnErr result (Passed (setup_of round.now) (tell_span callback.now.slot callback.now.event ∷ [])
         (stands text.old.state (S.minds shelf.old) log.old.items spent.old)
         (stands text.new.state (S.minds shelf.new) log.new.items spent.new)) }
-    ensures ready { IsReady round.now.slots.now.items text.new.state (S.minds shelf.new) spent.new }
+    ensures ready { MayRun round.now.slots.now.items text.new.state (S.minds shelf.new) spent.new }
     ensures followed { OnOk result (F.follows follower.new text.new.state) }
     ensures layout_ground { F.layout_ground follower.new ≡ F.layout_ground follower.old }
 {
@@ -363,16 +373,17 @@ fn do_answer<S: Shelf, F: Follower, L: Ledger>(
 ) -> Result<(), NoMemory>
     requires depth { depth ≤ round.now.depth + 1 }
     requires nested { 0 < depth }
-    requires ready { IsReady round.now.slots.now.items text.old.state (S.minds shelf.old) spent.old }
+    requires ready { MayRun round.now.slots.now.items text.old.state (S.minds shelf.old) spent.old }
     requires limit { round.now.depth ≤ Limits.DEPTH }
     requires followed { F.follows follower.old text.old.state }
-    ensures ok { OnOk result (Led F.takes (setup_of round.now) (rest_of answer.now.items depth) []
+    ensures ok { OnOk result (Led (TakesLast F.takes) (setup_of round.now) (rest_of answer.now.items depth) []
         (stands text.old.state (S.minds shelf.old) log.old.items spent.old)
-        (stands text.new.state (S.minds shelf.new) log.new.items spent.new) follower.old follower.new) }
+        (stands text.new.state (S.minds shelf.new) log.new.items spent.new)
+        (follower.old, text.old.effect) (follower.new, text.new.effect)) }
     ensures err { OnErr result (Passed (setup_of round.now) (rest_of answer.now.items depth)
         (stands text.old.state (S.minds shelf.old) log.old.items spent.old)
         (stands text.new.state (S.minds shelf.new) log.new.items spent.new)) }
-    ensures ready { IsReady round.now.slots.now.items text.new.state (S.minds shelf.new) spent.new }
+    ensures ready { MayRun round.now.slots.now.items text.new.state (S.minds shelf.new) spent.new }
     ensures followed { OnOk result (F.follows follower.new text.new.state) }
     ensures layout_ground { F.layout_ground follower.new ≡ F.layout_ground follower.old }
 {
@@ -402,21 +413,22 @@ fn do_edit<S: Shelf, F: Follower, L: Ledger>(
 ) -> Result<bool, NoMemory>
     requires depth { depth ≤ round.now.depth + 1 }
     requires nested { 0 < depth }
-    requires ready { IsReady round.now.slots.now.items text.old.state (S.minds shelf.old) spent.old }
+    requires ready { MayRun round.now.slots.now.items text.old.state (S.minds shelf.old) spent.old }
     requires limit { round.now.depth ≤ Limits.DEPTH }
     requires followed { F.follows follower.old text.old.state }
-    ensures ok { (others : List Asked) → IfOk result (λ more. Led F.takes (setup_of round.now)
+    ensures ok { (others : List AnswerEdit) → IfOk result (λ more. Led (TakesLast F.takes) (setup_of round.now)
         (do_rest edit.now others depth ∷ []) (if more then rest_of others depth else [])
         (stands text.old.state (S.minds shelf.old) log.old.items spent.old)
-        (stands text.new.state (S.minds shelf.new) log.new.items spent.new) follower.old follower.new) }
-    ensures err { (others : List Asked) → OnErr result (Passed (setup_of round.now) (do_rest edit.now others depth ∷ [])
+        (stands text.new.state (S.minds shelf.new) log.new.items spent.new)
+        (follower.old, text.old.effect) (follower.new, text.new.effect)) }
+    ensures err { (others : List AnswerEdit) → OnErr result (Passed (setup_of round.now) (do_rest edit.now others depth ∷ [])
         (stands text.old.state (S.minds shelf.old) log.old.items spent.old)
         (stands text.new.state (S.minds shelf.new) log.new.items spent.new)) }
-    ensures ready { IsReady round.now.slots.now.items text.new.state (S.minds shelf.new) spent.new }
+    ensures ready { MayRun round.now.slots.now.items text.new.state (S.minds shelf.new) spent.new }
     ensures followed { OnOk result (F.follows follower.new text.new.state) }
     ensures layout_ground { F.layout_ground follower.new ≡ F.layout_ground follower.old }
 {
-    let step = ask(alloc, edit)?;
+    let step = resolve_edit(alloc, edit)?;
     if is_barred(round.depth, depth, *spent) {
         log_barred(round, &step, depth, *spent, log)?;
         return Ok(false);

@@ -4,18 +4,18 @@ ghost use Rattle.std.specs.Prelude.{ℕ, ◌≡◌, ◌<◌, IfOk};
 ghost use Rattle.std.specs.List.{All};
 ghost use Rattle.edit_model.specs.Rows.{spans_in};
 ghost use Rattle.edit_model.specs.WellFormed.{IsSeated, IsWellFormed};
-ghost use Rattle.edit_model.specs.Events.{seat_of, listeners};
+ghost use Rattle.edit_model.specs.Events.{slot_of, listeners};
 ghost use Rattle.watcher_rounds.specs.Seats.{seats_in, slots_over};
 
-use crate::asking::place_of;
 use edit_base::{Limits, NoMemory, Pick, SpanRow, Steps, What};
 use edit_model::Step;
 use replace_engine::SpannedText;
-use span_flags::lies_over;
+use span_flags::{lies_over, place_of};
 use std::alloc::Global;
 use std::sync::ledger::Ledger;
 
-/// The seats of a text's watchers, in a query's order. Where there are no slots there is no seat, and no query.
+/// The seats of a text's watchers, in a query's order. Where there are no slots there is no seat, and no query: no step
+/// is counted.
 pub fn seats<L: Ledger>(
     alloc: Global,
     slots: u8,
@@ -25,6 +25,7 @@ pub fn seats<L: Ledger>(
     requires seated { IsSeated slots text.now.state.spans }
     ensures seats { IfOk result (λ rows. spans_in rows.items ≡ seats_in text.now.state) }
     ensures well_formed { IsWellFormed text.now.state }
+    ensures steps { slots ≡ 0 → steps.new ≡ steps.old }
 {
     let length = text.len();
     let mut rows = Vec::new(alloc);
@@ -69,15 +70,15 @@ fn slots_over(alloc: Global, start: u32, end: u32, seats: &[SpanRow]) -> Result<
     let mut slots = Vec::new(alloc);
     for seat in seats {
         if lies_over(seat, start, end) {
-            slots.push(seat_of(seat.what))?;
+            slots.push(slot_of(seat.what))?;
         }
     }
     Ok(slots)
 }
 
-/// The slot of a seat.
-pub fn seat_of(what: What) -> u8
-    ensures { result ≡ seat_of what }
+/// The slot of the watcher whose seat this is.
+pub fn slot_of(what: What) -> u8
+    ensures { result ≡ slot_of what }
 {
     match what {
         What::Tag(_) => 0,

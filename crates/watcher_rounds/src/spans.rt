@@ -10,7 +10,7 @@ ghost use Rattle.span_changes.specs.Changes.{effect_of};
 ghost use Rattle.moved_rows.specs.Moves.{moved_of};
 ghost use Rattle.watcher_rounds.specs.Seats.{seats_in, slots_beside, told_there, told_moved, seats_told};
 
-use crate::seats::{seat_of, seats};
+use crate::seats::{seats, slot_of};
 use edit_base::{NoMemory, SpanRow, Steps};
 use edit_model::{SpanCallback, SpanChange, SpanEvent};
 use replace_engine::{Change, MovedRows, SpannedText};
@@ -18,7 +18,8 @@ use span_flags::lies_over;
 use std::alloc::Global;
 use std::sync::ledger::Ledger;
 
-/// Who is told of what the last edit did to spans, with the seats before it.
+/// Who is told of what the last edit did to spans, with the seats before it. Where there are no slots no step is
+/// counted.
 pub fn span_callbacks<L: Ledger>(
     alloc: Global,
     depth: u32,
@@ -31,6 +32,7 @@ pub fn span_callbacks<L: Ledger>(
     ensures told { IfOk result (λ told. told.items ≡ seats_told depth (spans_in before.now) (seats_in text.now.state)
         (length text.now.state.units) text.now.effect) }
     ensures well_formed { IsWellFormed text.now.state }
+    ensures steps { slots ≡ 0 → steps.new ≡ steps.old }
 {
     let after = seats(alloc, slots, text, steps)?;
     let mut told = Vec::new(alloc);
@@ -115,7 +117,7 @@ fn tell_beside(
 {
     for seat in seats {
         if lies_beside(seat, event.id, start, end) {
-            let slot = seat_of(seat.what);
+            let slot = slot_of(seat.what);
             told.push(SpanCallback { slot, event })?;
         }
     }

@@ -10,12 +10,12 @@ ghost use Rattle.edit_model.specs.Fitting.{IsFittingStep};
 ghost use Rattle.edit_model.specs.Machine.{tell_before, tell_changed, tell_after, tell_span, rest_of, mind_in};
 ghost use Rattle.watcher_rounds.specs.Rounds.{setup_of, slot_count, stands, AreOnShelf, Tells, Passed};
 
-use crate::asking::place_of;
 use crate::round::{Log, Round};
 use crate::shelf::Shelf;
 use edit_base::{Limits, NoMemory};
 use edit_model::{LogEntry, SpanCallback, Step, TextEvent};
 use replace_engine::SpannedText;
+use span_flags::place_of;
 use watcher_api::Answer;
 
 /// What they are told of an edit that is done.

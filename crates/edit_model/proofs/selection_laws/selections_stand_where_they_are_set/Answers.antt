@@ -1,5 +1,5 @@
 use Rattle.edit_model.proofs.SelectionPlaces.{selects_places, leaves_no_selection}
-use Rattle.edit_model.proofs.PlannedItems.{scales_inside}
+use Rattle.edit_model.proofs.ResolvedItems.{scales_inside}
 use Rattle.edit_model.proofs.selection_laws.selections_stand_where_they_are_set.Goals as goal
 
 pub returns-clause-scales : goal.returns-clause-scales

@@ -6,7 +6,7 @@ use Rattle.std.proofs.lemmas.List.{flat_map_more, take_more}
 use Rattle.std.proofs.lemmas.Option.{slice_get_within, get_or_from_slice_get}
 use Rattle.edit_model.specs.State.{Span}
 use Rattle.edit_model.specs.Rows.{span_of}
-use Rattle.edit_model.specs.Printed.{span_line}
+use Rattle.trace_model.specs.Printed.{span_line}
 use Rattle.editor_core.proofs.end_block.print_spans.Goals as goal
 
 take_got : (spans : List Span) (at : ℕ) (span : Span) → slice_get spans at ≡ Some span → take (at + 1) spans ≡ take at spans ++ span ∷ []

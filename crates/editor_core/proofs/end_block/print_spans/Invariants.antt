@@ -1,6 +1,6 @@
 use Rattle.std.proofs.Common.{◌≡◌, ◌++◌, take}
 use Rattle.std.specs.List.{flat_map}
-use Rattle.edit_model.specs.Printed.{span_line}
+use Rattle.trace_model.specs.Printed.{span_line}
 use Rattle.editor_core.proofs.end_block.print_spans.Given as goal
 
 abbrev pub invariant-loop-at : goal.invariant-loop-at

@@ -1,6 +1,6 @@
 use Rattle.std.proofs.Common.{◌≡◌, ◌++◌, take}
 use Rattle.std.specs.List.{flat_map}
-use Rattle.edit_model.specs.Printed.{span_line}
+use Rattle.trace_model.specs.Printed.{span_line}
 use Rattle.edit_model.specs.Rows.{spans_in}
 use Rattle.editor_core.proofs.queries.print_rows.Given as goal
 

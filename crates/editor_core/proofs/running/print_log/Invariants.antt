@@ -1,6 +1,6 @@
 use Rattle.std.proofs.Common.{◌≡◌, ◌++◌, take}
 use Rattle.std.specs.List.{flat_map}
-use Rattle.edit_model.specs.Printed.{entry_line}
+use Rattle.trace_model.specs.Printed.{entry_line}
 use Rattle.editor_core.proofs.running.print_log.Given as goal
 
 abbrev pub invariant-loop-entry : goal.invariant-loop-entry

@@ -1,12 +1,11 @@
 -- The items so far were run, and the others are left.
-use Rattle.std.proofs.Common.{◌≤◌, length, map, drop}
-use Rattle.std.specs.List.{All}
+use Rattle.std.proofs.Common.{◌≡◌, ◌≤◌, [], length, map, drop}
 use Rattle.edit_base.specs.declared.bounds.TheConstants.Limits.{NESTED_EDITS}
-use Rattle.edit_model.specs.Output.{setup}
+use Rattle.trace_model.specs.Output.{setup}
 use Rattle.edit_model.specs.WellFormed.{IsSeated}
 use Rattle.settings_reader.specs.Seen.{as_settings}
 use Rattle.watcher_rounds.specs.Rounds.{AreOnShelf, stands}
-use Rattle.editor_core.specs.Editors.{scene_at}
+use Rattle.edit_model.specs.Machine.{scene_at}
 use Rattle.editor_core.proofs.ItemRuns.{Ran}
 use Rattle.editor_core.proofs.running.run_items.Given as goal
 
@@ -20,4 +19,5 @@ invariant-loop-item g l =
       shelf : AreOnShelf l.slots.items minds;
       seats : IsSeated (length l.slots.items) l.text.state.spans;
       few : l.spent ≤ NESTED_EDITS;
+      idle : l.items ≡ [] → l.steps ≡ l.fn.steps;
     }

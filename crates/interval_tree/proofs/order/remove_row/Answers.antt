@@ -5,7 +5,8 @@ use Rattle.std.specs.List.Sorted.{IsPermutation}
 use Rattle.std.proofs.lemmas.List.{take_at}
 use Rattle.interval_tree.specs.Tree.{Topped, kept_end}
 use Rattle.interval_tree.proofs.Placed.{index_stays}
-use Rattle.interval_tree.proofs.WindowRemoved.{places_count, placed_without_last, removed_index, rows_without_last}
+use Rattle.interval_tree.proofs.Ranges.{long_places}
+use Rattle.interval_tree.proofs.WindowRemoved.{placed_without_last, removed_index, rows_without_last}
 use Rattle.interval_tree.proofs.order.remove_row.Goals as goal
 
 pub take_out-requires-clause-within : goal.take_out-requires-clause-within
@@ -18,7 +19,7 @@ take_out-requires-clause-all c =
 
 pub raise-requires : goal.raise-requires
 raise-requires c =
-    let n = places_count _ _ c.take_out.ensures.all in
+    let n = long_places _ _ c.take_out.ensures.all in
     record {
       long = omega (
         arith,

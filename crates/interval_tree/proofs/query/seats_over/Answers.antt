@@ -10,7 +10,7 @@ use Rattle.interval_tree.specs.declared.walk.Asked.TheVariants.{Over}
 use Rattle.span_table.specs.Table.{seen, spans_of}
 use Rattle.interval_tree.proofs.QueryOrder.{found_orders, found_over}
 use Rattle.interval_tree.proofs.QuerySeats.{seats_few, seats_watched, seats_within}
-use Rattle.interval_tree.proofs.Placed.{all_range}
+use Rattle.interval_tree.proofs.Ranges.{all_range}
 use Rattle.interval_tree.proofs.query.seats_over.Goals as goal
 
 pub take_seats-requires-clause-within : goal.take_seats-requires-clause-within
@@ -35,4 +35,4 @@ returns-in-Ok-clause-orders g c =
 
 pub returns-in-Err-clause-room : goal.returns-in-Err-clause-room
 returns-in-Err-clause-room g c = λ fits.
-    c.in-Err.ensures.room (omega (arith, fits, seats_few c.args.rows.now, ap length c.requires.all, c.clear.ensures.capacity))
+    c.in-Err.ensures.room (omega (arith, fits, seats_few c.args.rows.now.kept, ap length c.requires.all, c.clear.ensures.capacity))

@@ -1,5 +1,6 @@
 -- The least place at each return.
-use Rattle.std.proofs.Common.{◌+◌, ◌<◌, ◌/◌, length, arith, ap, ◌∙◌, length-drop}
+use Rattle.std.proofs.Common.{◌+◌, ◌<◌, ◌/◌, length, arith, ap, sym, ◌∙◌, length-drop}
+use Rattle.std.proofs.lemmas.Bool.{ltb-true}
 use Rattle.std.proofs.lemmas.Bool.Decides.{nat_tests}
 use Rattle.std.proofs.lemmas.List.{length-take-le}
 use Rattle.edit_model.specs.Over.{least}
@@ -33,15 +34,15 @@ least_emptied-first-requires t c =
       ),
     )
 
-pub returns-then-row-removal : goal.returns-then-row-removal
-returns-then-row-removal t c =
+pub returns-then-starts_behind : goal.returns-then-starts_behind
+returns-then-starts_behind t c =
     c.least_emptied-first.ensures
     ∙ ap (λ places. least c.args.best (emptied c.args.removal.now.start c.args.removal.now.end c.args.removal.now.grown (spans_of c.args.rows.now) places))
     c.places_before.ensures
     ∙ emptied_cut c.args.rows.now c.args.removal.now.start c.args.removal.now.bound c.args.by_start.now c.args.tops.now c.requires.branch
     (length c.args.by_start.now / 2) (omega arith)
     (grind (arith, nat_tests)) c.requires.forward c.args.removal.now.end c.args.removal.now.grown c.args.best
-    (omega (arith, ap (λ span. span.start) c.read-row.ensures.span, c.if-row-removal.true))
+    (omega (arith, ap (λ span. span.start) c.read-row.ensures.span, ltb-true c.args.removal.now.end c.read-row.result.start (sym c.starts_behind.ensures ∙ c.if-starts_behind.true)))
 
 pub least_emptied-requires : goal.least_emptied-requires
 least_emptied-requires t c =

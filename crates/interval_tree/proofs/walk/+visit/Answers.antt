@@ -1,6 +1,7 @@
 -- What is found, and what is read, at each return.
 use Rattle.std.proofs.Common.{◌≡◌, ◌+◌, ◌++◌, ◌/◌, ◌<◌, [], length, rules, arith, sym, ap, ◌∙◌, subst, length-drop}
 use Rattle.std.specs.Result.{OnOk}
+use Rattle.std.proofs.lemmas.Bool.{ltb-false, ltb-true}
 use Rattle.std.proofs.lemmas.Bool.Decides.{nat_tests}
 use Rattle.std.proofs.lemmas.List.{append-nil, length-take-le}
 use Rattle.span_table.specs.Table.{spans_of}
@@ -42,18 +43,18 @@ returns-in_err-visit-clause-ticks g t c =
     c.visit.new.steps
     c.places_before.ensures c.row-row.ensures.tick c.visit.ensures.ticks
 
-pub returns-then-row-last-clause-ok : goal.returns-then-row-last-clause-ok
-returns-then-row-last-clause-ok g t c =
+pub returns-then-starts_behind-clause-ok : goal.returns-then-starts_behind-clause-ok
+returns-then-starts_behind-clause-ok g t c =
     c.in_ok-visit.ensures.ok
     ∙ ap (λ places. c.args.out.now.items ++ found c.args.query.now.asked c.args.query.now.start c.args.query.now.end (spans_of c.args.rows.now) places)
     c.places_before.ensures
     ∙ ap (λ more. c.args.out.now.items ++ more)
     (sym (branch_cut c.args.rows.now c.args.query.now.start c.args.query.now.bound c.args.by_start.now c.args.tops.now c.requires
     (length c.args.by_start.now / 2) (omega arith) (grind (arith, nat_tests)) c.args.query.now.asked c.args.query.now.end
-    (omega (arith, ap (λ span. span.start) c.row-row.ensures.span, c.if-row-last.true))))
+    (omega (arith, ap (λ span. span.start) c.row-row.ensures.span, ltb-true c.args.query.now.end c.row-row.result.start (sym c.starts_behind.ensures ∙ c.if-starts_behind.true)))))
 
-pub returns-then-row-last-clause-ticks : goal.returns-then-row-last-clause-ticks
-returns-then-row-last-clause-ticks g t c =
+pub returns-then-starts_behind-clause-ticks : goal.returns-then-starts_behind-clause-ticks
+returns-then-starts_behind-clause-ticks g t c =
     walk_left c.args.query.now.start c.args.query.now.end (spans_of c.args.rows.now) c.args.by_start.now (length c.args.by_start.now / 2) (omega arith)
     (grind (arith, nat_tests))
     (branch_reached c.args.rows.now c.args.query.now.start c.args.query.now.bound c.args.by_start.now c.args.tops.now c.requires
@@ -105,7 +106,7 @@ returns-clause-ticks g t c =
     (grind (arith, nat_tests))
     (branch_reached c.args.rows.now c.args.query.now.start c.args.query.now.bound c.args.by_start.now c.args.tops.now c.requires
     (length c.args.by_start.now / 2) (omega arith) (grind (arith, nat_tests)) (omega arith)) c.requires.rising
-    (omega (arith, ap (λ span. span.start) c.row-row.ensures.span, c.if-row-last.false))
+    (omega (arith, ap (λ span. span.start) c.row-row.ensures.span, ltb-false c.args.query.now.end c.row-row.result.start (sym c.starts_behind.ensures ∙ c.if-starts_behind.false)))
     c.places_before.result.now c.places_behind.result.now c.args.steps.now c.row-row.new.steps c.visit.new.steps c.visit-2.new.steps
     c.places_before.ensures c.places_behind.ensures c.row-row.ensures.tick c.visit.ensures.ticks c.visit-2.ensures.ticks
 

@@ -1,5 +1,5 @@
 -- The change tells of the rows that stood without the emptied ones, by where the cut takes them.
-use Rattle.std.proofs.Common.{◌≡◌, ◌+◌, ◌++◌, not, map, length, ap, subst, sym, ◌∙◌, arith}
+use Rattle.std.proofs.Common.{◌≡◌, ◌+◌, ◌++◌, not, true, map, length, ap, subst, sym, ◌∙◌, arith}
 use Rattle.std.specs.List.{All}
 use Rattle.std.proofs.lemmas.List.{length-map, length-append}
 use Rattle.std.proofs.lemmas.List.Elements.{All-filter}
@@ -14,7 +14,9 @@ use Rattle.text_cut.specs.Halves.{joined}
 use Rattle.replace_engine.specs.Arrivals.{arrivals}
 use Rattle.replace_engine.specs.Exchange.{comes, stays}
 use Rattle.span_changes.specs.Rows.{state_with}
+use Rattle.replace_engine.specs.Moved.{is_plain}
 use Rattle.replace_engine.proofs.Cuts.{cut_comes, cut_shifts, cut_stays}
+use Rattle.replace_engine.proofs.MovingNone.{plain_start}
 use Rattle.span_changes.proofs.Lists.{length-spans_of}
 use Rattle.span_changes.proofs.MovedLaws.{all_placed, moved_tells}
 use Rattle.span_changes.proofs.Spans.{effect_from}
@@ -102,6 +104,23 @@ returns-clause-left g c =
       all_long g c,
     )
 
+pub returns-clause-count : goal.returns-clause-count
+returns-clause-count g c =
+    let asked = c.args.asked.now in
+    let cut = c.new-cut.result in
+    let is = c.new-cut.ensures in
+    let spans = spans_of c.args.change.now.moved.rows in
+    let stayed = c.move_spans.ensures.spans ∙ cut_stays asked spans cut is.text is.brought is.start is.end is.grown _ (kept g c) in
+    omega (
+      arith,
+      ap (λ moves. length moves.rows.kept) c.start.ensures.moved,
+      c.bring_gap.ensures.count,
+      c.drop_emptied.ensures.fewer,
+      stays_long g c,
+      all_long g c,
+      ap length (cut_comes asked spans cut is.text is.brought is.start is.end is.grown _ stayed),
+    )
+
 pub returns-clause-effect : goal.returns-clause-effect
 returns-clause-effect g c =
     let asked = c.args.asked.now in
@@ -120,6 +139,15 @@ returns-clause-effect g c =
     (c.move_spans.ensures.spans ∙ ap (map (moved_span cut.start cut.end cut.grown (joined cut.text))) (sym (before g c))))
     ∙ cut_shifts asked spans cut is.text is.brought is.start is.end is.grown _ (before g c ∙ kept g c))
     (c.attach_coming.ensures.added ∙ cut_comes asked spans cut is.text is.brought is.start is.end is.grown _ stayed)
+
+-- where the gap alone moves all ends, no range goes and no row is read
+pub returns-clause-idle : goal.returns-clause-idle
+returns-clause-idle g c = λ plain.
+    let asked = c.args.asked.now in
+    let same : asked.start ≡ asked.end = plain_start asked.start asked.end _ plain in
+    let rows = ap (λ moves. spans_of moves.rows) (c.drop_emptied.ensures.none_cut same) ∙ old g c in
+    let stays : is_plain asked.start asked.end c.len.result (spans_of c.drop_emptied.new.moved.rows) ≡ true = rw (rows, c.len.ensures.len) plain in
+    c.touch.ensures.idle stays ∙ c.drop_emptied.ensures.idle same
 
 pub returns-clause-tells : goal.returns-clause-tells
 returns-clause-tells g c =

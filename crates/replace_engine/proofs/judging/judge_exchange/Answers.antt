@@ -5,7 +5,7 @@ use Rattle.edit_model.specs.Verdicts.{first_of}
 use Rattle.text_cut.specs.Halves.{joined}
 use Rattle.span_table.specs.Table.{spans_of}
 use Rattle.span_changes.specs.Rows.{state_with}
-use Rattle.replace_engine.specs.Lines.{exchange_lines}
+use Rattle.replace_engine.specs.EditVerdicts.{exchange_lines}
 use Rattle.text_cut.specs.Coming.{all_coming}
 use Rattle.replace_engine.proofs.Tables.{verdict-cut}
 use Rattle.replace_engine.proofs.judging.judge_exchange.Goals as goal

@@ -1,10 +1,9 @@
 -- The lines so far were counted, and nothing was written.
 use Rattle.std.proofs.Common.{◌≡◌, ◌≤◌, ◌+◌, List, length, true}
-use Rattle.edit_model.specs.Lines.{open_line}
+use Rattle.trace_model.specs.TraceLines.{open_line}
 use Rattle.edit_model.specs.Minds.{Mind}
-use Rattle.edit_model.specs.Output.{check_lines}
-use Rattle.replay_cli.specs.Lines.{lines_in}
-use Rattle.replay_cli.specs.Steps.{close_check}
+use Rattle.trace_model.specs.Output.{check_lines}
+use Rattle.replay_cli.specs.Steps.{lines_in, close_check}
 use Rattle.replay_cli.proofs.checker.check_trace.Given as goal
 
 abbrev pub invariant-loop-line : goal.invariant-loop-line

@@ -1,11 +1,10 @@
 -- The lines so far have given their output, and the others give the rest.
 use Rattle.std.proofs.Common.{◌≡◌, ◌≤◌, ◌+◌, length, map, true}
-use Rattle.edit_model.specs.Lines.{open_line}
-use Rattle.edit_model.specs.Output.{run_lines}
+use Rattle.trace_model.specs.TraceLines.{open_line}
+use Rattle.trace_model.specs.Output.{run_lines}
 use Rattle.editor_core.specs.Editors.{session_with}
 use Rattle.watcher_rounds.specs.Rounds.{AreOnShelf}
-use Rattle.replay_cli.specs.Lines.{lines_in}
-use Rattle.replay_cli.specs.Steps.{Reached, close_of}
+use Rattle.replay_cli.specs.Steps.{lines_in, Reached, close_of}
 use Rattle.replay_cli.proofs.player.play_lines.Given as goal
 
 abbrev pub invariant-loop-line : goal.invariant-loop-line

@@ -1,12 +1,12 @@
 -- What a line gives, by what was read.
 use Rattle.std.proofs.Common.{map}
 use Rattle.editor_core.specs.Editors.{session_with}
-use Rattle.replay_cli.proofs.LineRuns.{fits-line_of, blank-goes, faulty-stops, command-goes}
+use Rattle.replay_cli.proofs.LineRuns.{fits-line_kind, blank-goes, faulty-stops, command-goes}
 use Rattle.replay_cli.proofs.player.run_line.Goals as goal
 
 pub write_command-requires-clause-fitting : goal.write_command-requires-clause-fitting
 write_command-requires-clause-fitting g c =
-    fits-line_of c.in-Ok-Command.command c.args.line.now (rw c.in-Ok-Command.field-0-is at c.in-Ok-Command.ensures)
+    fits-line_kind c.in-Ok-Command.command c.args.line.now (rw c.in-Ok-Command.field-0-is at c.in-Ok-Command.ensures)
 
 pub returns-in-Ok-Blank-clause-gives : goal.returns-in-Ok-Blank-clause-gives
 returns-in-Ok-Blank-clause-gives g c =

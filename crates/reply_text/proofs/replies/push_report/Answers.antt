@@ -1,7 +1,7 @@
 -- The pieces of a report, one behind another.
 use Rattle.std.proofs.Common.{rules, ◌≡◌, ◌++◌, codes}
 use Rattle.std.proofs.lemmas.Result.{on_ok_weaker}
-use Rattle.edit_model.specs.Printed.{line_end, signed_places}
+use Rattle.trace_model.specs.Printed.{line_end, signed_places}
 use Rattle.reply_text.proofs.Appending.{behind}
 use Rattle.reply_text.proofs.replies.push_report.Goals as goal
 

@@ -1,6 +1,6 @@
 use Rattle.std.proofs.Common.{◌≡◌, ◌++◌, take}
 use Rattle.std.specs.List.{flat_map}
-use Rattle.edit_model.specs.Printed.{unit_text}
+use Rattle.trace_model.specs.Printed.{unit_text}
 use Rattle.reply_text.proofs.units.push_units.Given as goal
 
 abbrev pub invariant-loop-unit : goal.invariant-loop-unit

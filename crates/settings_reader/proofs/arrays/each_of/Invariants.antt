@@ -1,7 +1,7 @@
 -- What was read so far stands in front of what the other values say.
 use Rattle.std.proofs.Common.{◌≡◌, drop}
 use Rattle.toml.specs.View.{items_view}
-use Rattle.edit_model.specs.Settings.{each_of}
+use Rattle.trace_model.specs.Settings.{each_of}
 use Rattle.settings_reader.proofs.Each.{behind}
 use Rattle.settings_reader.proofs.arrays.each_of.Given as goal
 

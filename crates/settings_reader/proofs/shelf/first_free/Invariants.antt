@@ -1,6 +1,6 @@
 -- No place up to here was free: the first free place is the first from here on.
 use Rattle.std.proofs.Common.{◌≡◌, ◌-◌, map}
-use Rattle.edit_model.specs.Shelves.{first_free}
+use Rattle.trace_model.specs.Shelves.{first_free}
 use Rattle.settings_reader.proofs.Places.{first_from}
 use Rattle.settings_reader.proofs.shelf.first_free.Given as goal
 

@@ -1,7 +1,7 @@
 -- The entries load their watchers one after the other.
 use Rattle.std.proofs.Common.{◌∙◌, sym, ap, subst, map, arith}
 use Rattle.std.proofs.lemmas.Result.{err_from_is_err_and}
-use Rattle.edit_model.specs.Shelves.{loaded_shelf}
+use Rattle.trace_model.specs.Shelves.{loaded_shelf}
 use Rattle.settings_reader.proofs.Loads.{IsSoFar, begins, ends, all_seated, goes_on, stops}
 use Rattle.settings_reader.proofs.shelf.load_shelf.Goals as goal
 

@@ -1,5 +1,5 @@
 -- The region is attached, or some row is counted.
-use Rattle.std.proofs.Common.{◌≡◌, ◌∙◌, true, false, ltb, ap, sym}
+use Rattle.std.proofs.Common.{◌∙◌, ltb, ap, sym}
 use Rattle.span_table.specs.Table.{spans_of}
 use Rattle.span_changes.proofs.Dropped.{any_dropped, dropped_region}
 use Rattle.span_changes.proofs.composing.has_dropped.Goals as goal

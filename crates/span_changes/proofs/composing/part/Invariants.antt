@@ -1,5 +1,5 @@
 -- The rows so far are parted.
-use Rattle.std.proofs.Common.{◌≡◌, ◌≤◌, vec_capacity}
+use Rattle.std.proofs.Common.{◌≤◌, vec_capacity}
 use Rattle.edit_model.specs.Selection.{is_dropped}
 use Rattle.span_table.specs.Table.{spans_of}
 use Rattle.span_changes.proofs.Parted.{AreParted}

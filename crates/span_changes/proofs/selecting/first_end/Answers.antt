@@ -1,5 +1,5 @@
 -- The ends in order of attachment, where both are attached, one is or none.
-use Rattle.std.proofs.Common.{sym, ◌∙◌, arith}
+use Rattle.std.proofs.Common.{sym, arith}
 use Rattle.span_table.specs.Table.{spans_of}
 use Rattle.span_changes.proofs.Ends.{from_end, from_start, without_end, without_start}
 use Rattle.span_changes.proofs.selecting.first_end.Goals as goal

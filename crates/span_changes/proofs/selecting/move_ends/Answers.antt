@@ -1,5 +1,5 @@
 -- Both ends go to their places, one after the other.
-use Rattle.std.proofs.Common.{◌≡◌, ℕ, [], List, map, length, None, ap, sym, ◌∙◌, arith}
+use Rattle.std.proofs.Common.{◌≡◌, [], List, map, length, ap, sym, ◌∙◌, arith}
 use Rattle.std.proofs.Math.ListN.{set}
 use Rattle.std.specs.List.{filter}
 use Rattle.std.proofs.lemmas.List.{append-nil, length-map}

@@ -3,14 +3,14 @@ use Rattle.std.proofs.Common.{◌≡◌, ◌++◌, Some, false, is_some, [], ◌
 use Rattle.edit_model.specs.Attached.{is_attached}
 use Rattle.edit_model.specs.Rows.{span_of, spans_in}
 use Rattle.std.proofs.lemmas.List.{append-nil, map-append}
-use Rattle.span_table.specs.Table.{place_of, span_at, spans_of}
+use Rattle.span_table.specs.Table.{row_place, span_at, spans_of}
 use Rattle.span_changes.proofs.Lists.{same_seen}
 use Rattle.span_changes.proofs.Spans.{absent_found, absent_stay, found_there, taken_there}
 use Rattle.span_changes.proofs.setting.remove_also.Goals as goal
 
 module _ (c : goal.After-remove) where
-  place : place_of c.args.id (spans_of c.args.change.now.moved.rows) ≡ Some c.in-Some.at
-  place = ap (place_of c.args.id) (sym c.rows.ensures.spans) ∙ sym c.find.ensures.place ∙ c.in-Some.is
+  place : row_place c.args.id (spans_of c.args.change.now.moved.rows) ≡ Some c.in-Some.at
+  place = ap (row_place c.args.id) (sym c.rows.ensures.spans) ∙ sym c.find.ensures.place ∙ c.in-Some.is
 
   row : span_of c.read.result ≡ span_at (spans_of c.args.change.now.moved.rows) c.in-Some.at
   row =

@@ -1,7 +1,7 @@
 -- The spans so far, and then what the values from here on say.
 use Rattle.std.proofs.Common.{◌≡◌, ◌++◌, drop, option_map}
 use Rattle.serde_json.specs.View.{items_view}
-use Rattle.edit_model.specs.Reading.{spans_said}
+use Rattle.trace_model.specs.Reading.{spans_said}
 use Rattle.trace_words.proofs.fields.each_span.Given as goal
 
 abbrev pub invariant-loop-value : goal.invariant-loop-value

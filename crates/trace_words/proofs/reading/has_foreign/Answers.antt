@@ -1,6 +1,6 @@
 -- A key that the operation doesn't have.
 use Rattle.std.proofs.Common.{◌∙◌}
-use Rattle.edit_model.specs.Operations.{operation}
+use Rattle.trace_model.specs.Operations.{operation}
 use Rattle.trace_words.proofs.Rows.{list_any-foreign}
 use Rattle.trace_words.proofs.reading.has_foreign.Goals as goal
 

@@ -1,7 +1,7 @@
 -- A field that isn't there.
 use Rattle.std.proofs.Common.{◌∙◌}
 use Rattle.serde_json.specs.View.{members_view}
-use Rattle.edit_model.specs.Operations.{operation}
+use Rattle.trace_model.specs.Operations.{operation}
 use Rattle.trace_words.proofs.Rows.{list_any-missing}
 use Rattle.trace_words.proofs.reading.lacks_one.Goals as goal
 

@@ -1,6 +1,6 @@
 -- Four words and more.
 use Rattle.std.proofs.Common.{◌≡◌, ◌∷◌, ap, sym, ◌∙◌}
-use Rattle.edit_model.specs.Words.{words_of, what_by_words}
+use Rattle.trace_model.specs.Words.{words_of, what_by_words}
 use Rattle.trace_words.proofs.Cuts.{many-words}
 use Rattle.trace_words.proofs.words.what_from.Goals as goal
 

@@ -4,7 +4,7 @@ use Rattle.edit_model.specs.Rows.{spans_in}
 use Rattle.edit_model.specs.WellFormed.{IsSeated}
 use Rattle.edit_model.specs.Changed.{on_done}
 use Rattle.edit_model.specs.Machine.{events}
-use Rattle.watcher_rounds.specs.Rounds.{setup_of, slot_count, stands}
+use Rattle.watcher_rounds.specs.Rounds.{setup_of, slot_count, stands, TakesLast}
 use Rattle.watcher_rounds.proofs.Beside.{are_told, may_be_told}
 use Rattle.watcher_rounds.proofs.Runs.{passed_here, on_err}
 use Rattle.watcher_rounds.proofs.Follows.{sets_off_done, led_change, passed_change, led_carried, passed_before, passed_at_change, passed_changed}
@@ -43,9 +43,10 @@ returns-in_err-change-clause-err g c =
 pub returns-in_err-spans-clause-err : goal.returns-in_err-spans-clause-err
 returns-in_err-spans-clause-err g c =
     let a = c.args in
-    let change = led_change {takes = g.F.Follower.takes} (setup_of a.round.now) a.found.now.brought a.text.now.state c.change.new.text.state
-    (g.S.Shelf.minds c.tell_all_before.new.shelf) c.tell_all_before.new.log.items a.spent a.follower.now c.change.new.follower
-    c.in_ok-change.ensures.state c.in_ok-change.ensures.takes in
+    let change = led_change {takes = TakesLast g.F.Follower.takes} (setup_of a.round.now) a.found.now.brought a.text.now.state c.change.new.text.state
+    (g.S.Shelf.minds c.tell_all_before.new.shelf) c.tell_all_before.new.log.items a.spent (a.follower.now, a.text.now.effect)
+    (c.change.new.follower, c.change.new.text.effect) c.in_ok-change.ensures.state
+    (c.in_ok-change.ensures.takes, c.in_ok-change.ensures.effect) in
     on_err c.from_residual-in_err-spans.result
     (passed_changed a.text.now.state a.depth a.found.now.brought c.as_slice-told.result.now c.event_of-event.result a.found.now.verdict c.requires.done
     (c.as_slice-told.ensures.value ∙ c.in_ok-slots.ensures.listeners) c.event_of-event.ensures.event (c.in_ok-tell_all_before.ensures.ok a.spent) change
@@ -55,9 +56,10 @@ returns-in_err-spans-clause-err g c =
 pub returns-in_err-tell_all_changed-clause-err : goal.returns-in_err-tell_all_changed-clause-err
 returns-in_err-tell_all_changed-clause-err g c =
     let a = c.args in
-    let change = led_change {takes = g.F.Follower.takes} (setup_of a.round.now) a.found.now.brought a.text.now.state c.change.new.text.state
-    (g.S.Shelf.minds c.tell_all_before.new.shelf) c.tell_all_before.new.log.items a.spent a.follower.now c.change.new.follower
-    c.in_ok-change.ensures.state c.in_ok-change.ensures.takes in
+    let change = led_change {takes = TakesLast g.F.Follower.takes} (setup_of a.round.now) a.found.now.brought a.text.now.state c.change.new.text.state
+    (g.S.Shelf.minds c.tell_all_before.new.shelf) c.tell_all_before.new.log.items a.spent (a.follower.now, a.text.now.effect)
+    (c.change.new.follower, c.change.new.text.effect) c.in_ok-change.ensures.state
+    (c.in_ok-change.ensures.takes, c.in_ok-change.ensures.effect) in
     on_err c.from_residual-in_err-tell_all_changed.result
     (passed_changed a.text.now.state a.depth a.found.now.brought c.as_slice-told.result.now c.event_of-event.result a.found.now.verdict c.requires.done
     (c.as_slice-told.ensures.value ∙ c.in_ok-slots.ensures.listeners) c.event_of-event.ensures.event (c.in_ok-tell_all_before.ensures.ok a.spent) change
@@ -67,9 +69,10 @@ pub returns-clause-ok : goal.returns-clause-ok
 returns-clause-ok g c =
     let a = c.args in
     let asked = a.found.now.brought in
-    let change = led_change {takes = g.F.Follower.takes} (setup_of a.round.now) asked a.text.now.state c.change.new.text.state
-    (g.S.Shelf.minds c.tell_all_before.new.shelf) c.tell_all_before.new.log.items a.spent a.follower.now c.change.new.follower
-    c.in_ok-change.ensures.state c.in_ok-change.ensures.takes in
+    let change = led_change {takes = TakesLast g.F.Follower.takes} (setup_of a.round.now) asked a.text.now.state c.change.new.text.state
+    (g.S.Shelf.minds c.tell_all_before.new.shelf) c.tell_all_before.new.log.items a.spent (a.follower.now, a.text.now.effect)
+    (c.change.new.follower, c.change.new.text.effect) c.in_ok-change.ensures.state
+    (c.in_ok-change.ensures.takes, c.in_ok-change.ensures.effect) in
     let told = are_told a.depth a.text.now.state c.change.new.text.state asked c.change.new.text.effect (spans_in c.as_slice-before.result.now)
     c.in_ok-spans.spans.items c.in_ok-rows.ensures.well_formed c.in_ok-spans.ensures.well_formed
     (ap spans_in c.as_slice-before.ensures.value ∙ c.in_ok-rows.ensures.seats) c.in_ok-change.ensures.state c.in_ok-change.ensures.effect

@@ -3,17 +3,17 @@ use Rattle.std.proofs.Common.{◌∙◌, ◌+◌, ◌∷◌, [], drop, refl, sym
 use Rattle.edit_model.specs.Machine.{do_rest, tell_after, rest_of}
 use Rattle.watcher_rounds.specs.Rounds.{setup_of, stands, tell_one}
 use Rattle.watcher_rounds.proofs.Runs.{passed_here, passed_told, passed_still, on_err, on_err_then, on_ok_then}
-use Rattle.watcher_rounds.proofs.Follows.{AreLaws, told_on, led_none, led_more, passed_more, led_asked, passed_asked, passed_of_spans, led_undone, led_barred, led_begun, passed_begun, led_stop, led_go_on, passed_rest, led_rest, led_from}
+use Rattle.watcher_rounds.proofs.Follows.{laws_with_last, told_on, led_none, led_more, passed_more, led_asked, passed_asked, passed_of_spans, led_undone, led_barred, led_begun, passed_begun, led_stop, led_go_on, passed_rest, led_rest, led_from}
 use Rattle.watcher_rounds.proofs.rounds.+rounds.Goals as goal
 
 -- ---- ask_all
 
 pub ask_all-loop-slot-init : goal.ask_all-loop-slot-init
 ask_all-loop-slot-init g t c =
-    let laws : AreLaws g.F.Follower.takes = record { none = g.met.F.Follower.takes_none; both = g.met.F.Follower.takes_both } in
+    let laws = laws_with_last {takes = g.F.Follower.takes} (record { none = g.met.F.Follower.takes_none; both = g.met.F.Follower.takes_both }) in
     let a = c.args in
     record {
-      led = led_none laws (setup_of a.round.now) [] (stands a.text.now.state (g.S.Shelf.minds a.shelf.now) a.log.now.items a.spent.now) a.follower.now;
+      led = led_none laws (setup_of a.round.now) [] (stands a.text.now.state (g.S.Shelf.minds a.shelf.now) a.log.now.items a.spent.now) (a.follower.now, a.text.now.effect);
       ready = c.requires.ready;
       followed = c.requires.followed;
       layout_ground = refl;
@@ -27,7 +27,7 @@ ask_all-returns-in_err-ask_one-clause-err g t c =
 
 pub ask_all-loop-slot-preserved : goal.ask_all-loop-slot-preserved
 ask_all-loop-slot-preserved g t c =
-    let laws : AreLaws g.F.Follower.takes = record { none = g.met.F.Follower.takes_none; both = g.met.F.Follower.takes_both } in
+    let laws = laws_with_last {takes = g.F.Follower.takes} (record { none = g.met.F.Follower.takes_none; both = g.met.F.Follower.takes_both }) in
     record {
       led = led_more laws (λ slot. tell_after slot c.args.event.now) c.args.slots.now c.loop-slot.slot-index 0 c.loop-slot-test.true c.loop-slot.invariant.led
           c.in_ok-ask_one.ensures.ok;
@@ -57,11 +57,11 @@ ask_one-returns-clause-err g t c = on_err_then c.do_answer.result c.do_answer.en
 
 pub do_answer-loop-edit-init : goal.do_answer-loop-edit-init
 do_answer-loop-edit-init g t c =
-    let laws : AreLaws g.F.Follower.takes = record { none = g.met.F.Follower.takes_none; both = g.met.F.Follower.takes_both } in
+    let laws = laws_with_last {takes = g.F.Follower.takes} (record { none = g.met.F.Follower.takes_none; both = g.met.F.Follower.takes_both }) in
     let a = c.args in
     record {
       led = led_none laws (setup_of a.round.now) (rest_of c.as_slice-edit-items.result.now a.depth)
-          (stands a.text.now.state (g.S.Shelf.minds a.shelf.now) a.log.now.items a.spent.now) a.follower.now;
+          (stands a.text.now.state (g.S.Shelf.minds a.shelf.now) a.log.now.items a.spent.now) (a.follower.now, a.text.now.effect);
       ready = c.requires.ready;
       followed = c.requires.followed;
       layout_ground = refl;
@@ -75,7 +75,7 @@ do_answer-returns-in_err-do_edit-clause-err g t c =
 
 pub do_answer-returns-then-not-branch-clause-ok : goal.do_answer-returns-then-not-branch-clause-ok
 do_answer-returns-then-not-branch-clause-ok g t c =
-    let laws : AreLaws g.F.Follower.takes = record { none = g.met.F.Follower.takes_none; both = g.met.F.Follower.takes_both } in
+    let laws = laws_with_last {takes = g.F.Follower.takes} (record { none = g.met.F.Follower.takes_none; both = g.met.F.Follower.takes_both }) in
     let edits = c.as_slice-edit-items.result.now in
     let i = c.loop-edit.edit-index in
     led_from edits c.args.answer.now.items c.args.depth c.as_slice-edit-items.ensures.value
@@ -84,7 +84,7 @@ do_answer-returns-then-not-branch-clause-ok g t c =
 
 pub do_answer-loop-edit-preserved : goal.do_answer-loop-edit-preserved
 do_answer-loop-edit-preserved g t c =
-    let laws : AreLaws g.F.Follower.takes = record { none = g.met.F.Follower.takes_none; both = g.met.F.Follower.takes_both } in
+    let laws = laws_with_last {takes = g.F.Follower.takes} (record { none = g.met.F.Follower.takes_none; both = g.met.F.Follower.takes_both }) in
     let edits = c.as_slice-edit-items.result.now in
     let i = c.loop-edit.edit-index in
     record {
@@ -115,10 +115,10 @@ do_edit-returns-in_err-log_barred-clause-err g t c others =
 
 pub do_edit-returns-then-is_barred-clause-ok : goal.do_edit-returns-then-is_barred-clause-ok
 do_edit-returns-then-is_barred-clause-ok g t c others =
-    let laws : AreLaws g.F.Follower.takes = record { none = g.met.F.Follower.takes_none; both = g.met.F.Follower.takes_both } in
+    let laws = laws_with_last {takes = g.F.Follower.takes} (record { none = g.met.F.Follower.takes_none; both = g.met.F.Follower.takes_both }) in
     let a = c.args in
     led_barred laws (setup_of a.round.now) a.edit.now others a.depth c.in_ok-step.step a.text.now.state (g.S.Shelf.minds a.shelf.now) a.log.now.items
-    c.log_barred.new.log.items a.spent.now a.follower.now c.in_ok-step.ensures.step (c.in_ok-log_barred.ensures.log a.text.now.state)
+    c.log_barred.new.log.items a.spent.now (a.follower.now, a.text.now.effect) c.in_ok-step.ensures.step (c.in_ok-log_barred.ensures.log a.text.now.state)
     (sym c.is_barred.ensures.barred ∙ c.if-is_barred.true)
 
 pub do_edit-judge_and_log-requires-clause-ordered : goal.do_edit-judge_and_log-requires-clause-ordered
@@ -154,10 +154,10 @@ do_edit-returns-clause-ok g t c others =
 
 pub ask_of_spans-loop-callback-init : goal.ask_of_spans-loop-callback-init
 ask_of_spans-loop-callback-init g t c =
-    let laws : AreLaws g.F.Follower.takes = record { none = g.met.F.Follower.takes_none; both = g.met.F.Follower.takes_both } in
+    let laws = laws_with_last {takes = g.F.Follower.takes} (record { none = g.met.F.Follower.takes_none; both = g.met.F.Follower.takes_both }) in
     let a = c.args in
     record {
-      led = led_none laws (setup_of a.round.now) [] (stands a.text.now.state (g.S.Shelf.minds a.shelf.now) a.log.now.items a.spent.now) a.follower.now;
+      led = led_none laws (setup_of a.round.now) [] (stands a.text.now.state (g.S.Shelf.minds a.shelf.now) a.log.now.items a.spent.now) (a.follower.now, a.text.now.effect);
       ready = c.requires.ready;
       followed = c.requires.followed;
       layout_ground = refl;
@@ -171,7 +171,7 @@ ask_of_spans-returns-in_err-ask_of_span-clause-err g t c =
 
 pub ask_of_spans-loop-callback-preserved : goal.ask_of_spans-loop-callback-preserved
 ask_of_spans-loop-callback-preserved g t c =
-    let laws : AreLaws g.F.Follower.takes = record { none = g.met.F.Follower.takes_none; both = g.met.F.Follower.takes_both } in
+    let laws = laws_with_last {takes = g.F.Follower.takes} (record { none = g.met.F.Follower.takes_none; both = g.met.F.Follower.takes_both }) in
     record {
       led = led_more laws tell_one c.args.told.now c.loop-callback.callback-index _ c.loop-callback-test.true c.loop-callback.invariant.led
           c.in_ok-ask_of_span.ensures.ok;
@@ -201,11 +201,11 @@ ask_of_span-returns-clause-err g t c = on_err_then c.do_answer.result c.do_answe
 
 pub set_off-returns-in_default : goal.set_off-returns-in_default
 set_off-returns-in_default g t c =
-    let laws : AreLaws g.F.Follower.takes = record { none = g.met.F.Follower.takes_none; both = g.met.F.Follower.takes_both } in
+    let laws = laws_with_last {takes = g.F.Follower.takes} (record { none = g.met.F.Follower.takes_none; both = g.met.F.Follower.takes_both }) in
     let a = c.args in
     record {
       ok = led_undone laws (setup_of a.round.now) a.text.now.state a.depth a.found.now.brought a.found.now.verdict
-          (stands a.text.now.state (g.S.Shelf.minds a.shelf.now) a.log.now.items a.spent.now) a.follower.now c.in_default.not-Done;
+          (stands a.text.now.state (g.S.Shelf.minds a.shelf.now) a.log.now.items a.spent.now) (a.follower.now, a.text.now.effect) c.in_default.not-Done;
       err = tt;
       ready = c.requires.ready;
       followed = c.requires.followed;
@@ -223,7 +223,7 @@ set_off-returns-in_err-ask_all-clause-err g t c =
 
 pub set_off-returns-clause-ok : goal.set_off-returns-clause-ok
 set_off-returns-clause-ok g t c =
-    let laws : AreLaws g.F.Follower.takes = record { none = g.met.F.Follower.takes_none; both = g.met.F.Follower.takes_both } in
+    let laws = laws_with_last {takes = g.F.Follower.takes} (record { none = g.met.F.Follower.takes_none; both = g.met.F.Follower.takes_both }) in
     let told = c.in_ok-told.told in
     on_ok_then c.ask_of_spans.result c.ask_of_spans.ensures.ok
     (λ last. led_asked laws told.slots.items c.deref.result.now told.event told.spans.items c.deref-2.result.now c.deref.ensures.value

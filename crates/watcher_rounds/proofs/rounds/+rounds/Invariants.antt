@@ -1,7 +1,7 @@
 -- How much deeper answers may go, and what the loops over watchers and over the edits of an answer have come to.
 use Rattle.std.proofs.Common.{ℕ, ◌≡◌, ◌+◌, ◌-◌, ◌*◌, [], map, take, drop}
 use Rattle.edit_model.specs.Machine.{tell_after, rest_of}
-use Rattle.watcher_rounds.specs.Rounds.{setup_of, stands, tell_one, IsReady, Led}
+use Rattle.watcher_rounds.specs.Rounds.{setup_of, stands, tell_one, MayRun, TakesLast, Led}
 use Rattle.watcher_rounds.proofs.rounds.+rounds.Given as goal
 
 -- five functions a depth
@@ -31,30 +31,33 @@ decreases-ask_of_span g l = deeper l.round.now.depth l.callback.now.event.depth 
 
 abbrev pub invariant-ask_all-loop-slot : goal.invariant-ask_all-loop-slot
 invariant-ask_all-loop-slot g l = record {
-  led : Led g.F.Follower.takes (setup_of l.round) (map (λ slot. tell_after slot l.event) (take l.slot-index l.slots)) []
+  led : Led (TakesLast g.F.Follower.takes) (setup_of l.round) (map (λ slot. tell_after slot l.event) (take l.slot-index l.slots)) []
       (stands l.initial.text.state (g.S.Shelf.minds l.initial.shelf) l.initial.log.items l.initial.spent)
-      (stands l.text.state (g.S.Shelf.minds l.shelf) l.log.items l.spent) l.initial.follower l.follower;
-  ready : IsReady l.round.slots.now.items l.text.state (g.S.Shelf.minds l.shelf) l.spent;
+      (stands l.text.state (g.S.Shelf.minds l.shelf) l.log.items l.spent)
+      (l.initial.follower, l.initial.text.effect) (l.follower, l.text.effect);
+  ready : MayRun l.round.slots.now.items l.text.state (g.S.Shelf.minds l.shelf) l.spent;
   followed : g.F.Follower.follows l.follower l.text.state;
   layout_ground : g.F.Follower.layout_ground l.follower ≡ g.F.Follower.layout_ground l.initial.follower;
 }
 
 abbrev pub invariant-ask_of_spans-loop-callback : goal.invariant-ask_of_spans-loop-callback
 invariant-ask_of_spans-loop-callback g l = record {
-  led : Led g.F.Follower.takes (setup_of l.round) (map tell_one (take l.callback-index l.told)) []
+  led : Led (TakesLast g.F.Follower.takes) (setup_of l.round) (map tell_one (take l.callback-index l.told)) []
       (stands l.initial.text.state (g.S.Shelf.minds l.initial.shelf) l.initial.log.items l.initial.spent)
-      (stands l.text.state (g.S.Shelf.minds l.shelf) l.log.items l.spent) l.initial.follower l.follower;
-  ready : IsReady l.round.slots.now.items l.text.state (g.S.Shelf.minds l.shelf) l.spent;
+      (stands l.text.state (g.S.Shelf.minds l.shelf) l.log.items l.spent)
+      (l.initial.follower, l.initial.text.effect) (l.follower, l.text.effect);
+  ready : MayRun l.round.slots.now.items l.text.state (g.S.Shelf.minds l.shelf) l.spent;
   followed : g.F.Follower.follows l.follower l.text.state;
   layout_ground : g.F.Follower.layout_ground l.follower ≡ g.F.Follower.layout_ground l.initial.follower;
 }
 
 abbrev pub invariant-do_answer-loop-edit : goal.invariant-do_answer-loop-edit
 invariant-do_answer-loop-edit g l = record {
-  led : Led g.F.Follower.takes (setup_of l.round) (rest_of l.edit-items l.depth) (rest_of (drop l.edit-index l.edit-items) l.depth)
+  led : Led (TakesLast g.F.Follower.takes) (setup_of l.round) (rest_of l.edit-items l.depth) (rest_of (drop l.edit-index l.edit-items) l.depth)
       (stands l.initial.text.state (g.S.Shelf.minds l.initial.shelf) l.initial.log.items l.initial.spent)
-      (stands l.text.state (g.S.Shelf.minds l.shelf) l.log.items l.spent) l.initial.follower l.follower;
-  ready : IsReady l.round.slots.now.items l.text.state (g.S.Shelf.minds l.shelf) l.spent;
+      (stands l.text.state (g.S.Shelf.minds l.shelf) l.log.items l.spent)
+      (l.initial.follower, l.initial.text.effect) (l.follower, l.text.effect);
+  ready : MayRun l.round.slots.now.items l.text.state (g.S.Shelf.minds l.shelf) l.spent;
   followed : g.F.Follower.follows l.follower l.text.state;
   layout_ground : g.F.Follower.layout_ground l.follower ≡ g.F.Follower.layout_ground l.initial.follower;
 }

@@ -1,8 +1,8 @@
 -- The parts of a command's output, one behind the other.
 use Rattle.std.proofs.Common.{◌≡◌, ◌++◌, map, rules}
-use Rattle.edit_model.specs.Items.{items_of}
-use Rattle.edit_model.specs.Printed.{header_line}
-use Rattle.edit_model.specs.Output.{name_of}
+use Rattle.trace_model.specs.Items.{items_of}
+use Rattle.trace_model.specs.Printed.{header_line}
+use Rattle.trace_model.specs.Output.{name_of}
 use Rattle.editor_core.specs.Editors.{session_with}
 use Rattle.editor_core.proofs.ItemRuns.{comes-before, comes-still}
 use Rattle.editor_core.proofs.Turns.{turns-planned, fits-planned}

@@ -7,7 +7,8 @@ use Rattle.edit_model.specs.Rows.{span_of, spans_in}
 use Rattle.span_table.specs.declared.kept.KeptRow.{KeptRow}
 use Rattle.std.specs.List.{IsDistinct}
 use Rattle.interval_tree.specs.Ids.{ids_of, same_number}
-use Rattle.interval_tree.proofs.IndexPlaces.{ids_listed, range_long}
+use Rattle.interval_tree.proofs.IndexPlaces.{ids_listed}
+use Rattle.interval_tree.proofs.Ranges.{range_long}
 use Rattle.interval_tree.proofs.Placed.{number_placed}
 use Rattle.interval_tree.proofs.index.SpanIndex.set_rows.Goals as goal
 

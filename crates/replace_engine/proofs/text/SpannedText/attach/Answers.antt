@@ -2,7 +2,7 @@
 use Rattle.std.proofs.Common.{◌≡◌, rules, ap, ◌∙◌, arith}
 use Rattle.edit_model.specs.Changed.{stepped}
 use Rattle.edit_model.proofs.EditedStates.{well_formed-stepped, seated-stepped}
-use Rattle.replace_engine.specs.Lines.{set_of}
+use Rattle.replace_engine.specs.EditVerdicts.{set_of}
 use Rattle.span_changes.specs.Rows.{state_with}
 use Rattle.replace_engine.proofs.Sound.{formed_as, seated_as, spare_set}
 use Rattle.replace_engine.proofs.text.SpannedText.attach.Goals as goal

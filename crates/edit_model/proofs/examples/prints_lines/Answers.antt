@@ -1,8 +1,0 @@
--- Each computes.
-use Rattle.std.proofs.Common.{refl}
-use Rattle.std.specs.Fmt.{digits}
-use Rattle.edit_model.proofs.examples.prints_lines.Goals as goal
-
-pub returns : goal.returns
-unfolding digits
-returns c = (refl, refl, refl, refl, refl)

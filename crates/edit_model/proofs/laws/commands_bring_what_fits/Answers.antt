@@ -1,5 +1,0 @@
-use Rattle.edit_model.proofs.Readings.{fits-read_command}
-use Rattle.edit_model.proofs.laws.commands_bring_what_fits.Goals as goal
-
-pub returns : goal.returns
-returns c = fits-read_command

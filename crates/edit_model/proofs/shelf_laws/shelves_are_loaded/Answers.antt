@@ -1,8 +1,0 @@
-use Rattle.edit_model.proofs.Shelving.{shelf_loaded}
-use Rattle.edit_model.proofs.shelf_laws.shelves_are_loaded.Goals as goal
-
-pub returns-clause-seats : goal.returns-clause-seats
-returns-clause-seats c entries minds = (shelf_loaded entries minds).0
-
-pub returns-clause-loads : goal.returns-clause-loads
-returns-clause-loads c entries minds = (shelf_loaded entries minds).1

@@ -1,0 +1,4 @@
+pub mod Newlines
+pub mod Readings
+pub mod Shelving
+pub mod PlannedItems

@@ -1,0 +1,15 @@
+pub mod Items
+pub mod Report
+pub mod Printed
+pub mod Words
+pub mod Faults
+pub mod Operations
+pub mod Reading
+pub mod TraceLines
+pub mod Settings
+pub mod Shelves
+pub mod ShelfLaws
+pub mod Output
+pub mod TraceLaws
+pub mod LineExamples
+pub mod SessionExamples
