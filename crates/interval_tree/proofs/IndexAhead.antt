@@ -7,21 +7,17 @@ use Rattle.std.proofs.lemmas.List.Elements.{All-map, All-set}
 use Rattle.std.proofs.lemmas.List.Sums.{AllPass-from_list_all, list_all-from_AllPass, position_or_len_is}
 use Rattle.edit_model.specs.State.{Span}
 use Rattle.span_table.specs.declared.kept.KeptRow.{KeptRow}
-use Rattle.span_table.specs.Offsets.{IsOffset, place_at}
-use Rattle.span_table.specs.Table.{AreOffsets, no_span, seen, span_at}
+use Rattle.span_table.specs.Table.{AreNumbers, no_span, seen, span_at}
 use Rattle.interval_tree.specs.Answers.{IsForward}
 use Rattle.interval_tree.specs.Kinds.{is_ahead}
+use Rattle.interval_tree.proofs.NumberOrder.{places_rise_half}
 
--- greater offsets stand at no lower places
-rises : (gap room start end : ℕ) → IsOffset gap room start → IsOffset gap room end → start ≤ end → place_at gap room start ≤ place_at gap room end
-rises gap room start end starts ends order = grind (arith, nat_tests)
-
-pub all_forward : (gap room : ℕ) (kept : List KeptRow) → All (AreOffsets gap room) kept → list_all is_ahead kept ≡ true
+pub all_forward : (gap room : ℕ) (kept : List KeptRow) → All (AreNumbers gap room) kept → list_all is_ahead kept ≡ true
     → All IsForward (map (seen gap room) kept)
-all_forward gap room kept offsets ahead = All-map IsForward (seen gap room) kept
+all_forward gap room kept numbers ahead = All-map IsForward (seen gap room) kept
     (λ k d within.
-    let at = offsets k d within in
-    rises gap room _ _ at.start at.end (leb-true _ _ (AllPass-from_list_all is_ahead kept ahead k d within)))
+    let at = numbers k d within in
+    places_rise_half gap room _ _ _ _ at.start at.end (leb-true _ _ (AllPass-from_list_all is_ahead kept ahead k d within)))
 
 -- ---- the first that passes
 

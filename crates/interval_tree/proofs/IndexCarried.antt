@@ -1,6 +1,6 @@
 -- What is kept beside rows stays as it is while their ids, their flags' kinds and what they are stay.
-use Rattle.std.proofs.Common.{◌≡◌, ℕ, ◌<◌, Bool, true, false, cond, List, [], ◌∷◌, suc, map, length, get_or, refl, sym, subst, ap, ◌∙◌, arith}
-use Rattle.std.specs.List.{IsDistinct, filter, range_with_len}
+use Rattle.std.proofs.Common.{◌≡◌, ℕ, ◌<◌, ◌≤◌, Bool, true, false, cond, List, [], ◌∷◌, suc, map, length, get_or, refl, sym, subst, ap, ◌∙◌, arith}
+use Rattle.std.specs.List.{All, IsDistinct, filter, range_with_len}
 use Rattle.std.proofs.Math.ListN.{set, get_or-map}
 use Rattle.std.proofs.Math.Seq.{map-set_same}
 use Rattle.std.proofs.lemmas.List.{length-map, get_or-set_same}
@@ -9,10 +9,13 @@ use Rattle.std.proofs.lemmas.List.Elements.{filter_agree}
 use Rattle.edit_model.specs.State.{Span}
 use Rattle.edit_model.specs.Over.{is_watch}
 use Rattle.span_table.specs.declared.kept.KeptRow.{KeptRow}
-use Rattle.span_table.specs.Table.{kept_at, kept_span, no_row, no_span, seen, span_at}
+use Rattle.span_table.specs.Numbers.{number_at, place_of, starts_behind}
+use Rattle.span_table.specs.Table.{AreNumbers, kept_at, kept_span, no_row, no_span, seen, span_at}
 use Rattle.interval_tree.specs.Ids.{IsById, id_at, ids_of, same_number}
-use Rattle.interval_tree.specs.Tree.{IsPlaced}
+use Rattle.interval_tree.specs.Tree.{IsIndex, IsPlaced, Topped, kept_end, kept_start}
 use Rattle.interval_tree.specs.Kinds.{AreAlike, IsTally, is_composing_row, is_paragraph_row, most_seats, seats_of}
+use Rattle.interval_tree.proofs.NumberOrder.{order_stays}
+use Rattle.interval_tree.proofs.Placed.{placed_below}
 
 abbrev is_seat_row : KeptRow → Bool
 is_seat_row row = is_watch row.what
@@ -84,6 +87,35 @@ anew_alike f old_gap old_room gap room alike (row ∷ kept) =
 module _ (old_gap old_room gap room : ℕ) (kept anew : List KeptRow) (is : anew ≡ map (kept_span gap room) (map (seen old_gap old_room) kept)) where
   pub ids_anew : (by_id : List ℕ) → IsById kept by_id → IsById anew by_id
   ids_anew by_id = ids_carried (sym (ap ids_of is ∙ anew_alike (λ row. row.id) old_gap old_room gap room (λ row. refl) kept))
+
+  start_anew : (i : ℕ) → i < length kept
+      → kept_start anew i ≡ number_at gap room (starts_behind (kept_at kept i).flags) (place_of old_gap old_room (kept_start kept i))
+  start_anew i within =
+      let spans = map (seen old_gap old_room) kept in
+      ap (λ rows. kept_start rows i) is
+      ∙ ap (λ (row : KeptRow). row.start) (lists.get_or-map (kept_span gap room) spans i no_span no_row (simp length-map within))
+      ∙ ap (λ span. (kept_span gap room span).start) (lists.get_or-map (seen old_gap old_room) kept i no_row no_span within)
+
+  -- the order by start stays, since that of numbers does
+  pub index_anew : (by_start tops new_tops : List ℕ) → All (AreNumbers old_gap old_room) kept → IsIndex kept by_start tops
+      → length new_tops ≡ length by_start → Topped (map (kept_end anew) by_start) new_tops → IsIndex anew by_start new_tops
+  index_anew by_start tops new_tops numbers index long topped =
+      let count : length kept ≡ length anew =
+      sym (ap length is ∙ length-map (map (seen old_gap old_room) kept) (kept_span gap room) ∙ length-map kept (seen old_gap old_room)) in
+      let below = placed_below (length kept) by_start index.placed in
+      record {
+        placed = subst (λ n. IsPlaced n by_start) count index.placed;
+        rising = λ i j d order within.
+            let first = below i d (omega arith) in
+            let second = below j d within in
+            subst (λ k. k ≤ kept_start anew (get_or by_start j d)) (sym (start_anew (get_or by_start i d) first))
+            (subst (λ k. number_at gap room (starts_behind (kept_at kept (get_or by_start i d)).flags)
+            (place_of old_gap old_room (kept_start kept (get_or by_start i d))) ≤ k) (sym (start_anew (get_or by_start j d) second))
+            (order_stays old_gap old_room gap room _ _ _ _ (numbers (get_or by_start i d) no_row first).start
+            (numbers (get_or by_start j d) no_row second).start (index.rising i j d order within)));
+        long = long;
+        topped = topped;
+      }
 
 -- ---- another row at a place
 

@@ -27,3 +27,4 @@ pub mod WindowRemoved
 pub mod IdsAttached
 pub mod WindowFound
 pub mod OrderAdded
+pub mod NumberOrder

@@ -3,29 +3,24 @@ use Rattle.std.proofs.Common.{◌≡◌, ℕ, ◌+◌, ◌-◌, ◌*◌, ◌^◌
 use Rattle.std.specs.List.{All, filter, range_with_len}
 use Rattle.std.specs.List.Sorted.{IsPermutation}
 use Rattle.std.proofs.Math.Nat.{mul-le-mul_right, two-pow-succ}
-use Rattle.std.proofs.lemmas.Bool.Decides.{nat_tests}
 use Rattle.std.proofs.lemmas.List.{get_or-map, length-map}
 use Rattle.std.proofs.lemmas.List.Elements.{filter-append}
 use Rattle.std.proofs.lemmas.List.Sorted.{All-permutation}
 use Rattle.edit_model.specs.State.{Span}
 use Rattle.edit_model.specs.Over.{touches}
-use Rattle.span_table.specs.Offsets.{IsOffset, place_at}
-use Rattle.span_table.specs.Table.{AreOffsets, Rows, kept_at, no_row, no_span, seen, span_at, spans_of}
+use Rattle.span_table.specs.Table.{AreNumbers, Rows, kept_at, no_row, no_span, seen, span_at, spans_of}
 use Rattle.interval_tree.specs.Answers.{IsWithin, near_count}
 use Rattle.interval_tree.specs.Tree.{IsIndex, apart, kept_end, kept_start}
 use Rattle.interval_tree.specs.Walk.{IsBound, IsBranch, IsWalk, near}
+use Rattle.interval_tree.proofs.NumberOrder.{places_rise}
 use Rattle.interval_tree.proofs.Placed.{apart_few, placed_all, placed_below}
 use Rattle.interval_tree.proofs.QueryLists.{filter-map, filter_length, read_all}
 use Rattle.interval_tree.proofs.Ranges.{all_range, long_places}
 
--- a later offset is no earlier place
-climbs : (gap room x y : ℕ) → IsOffset gap room x → IsOffset gap room y → x ≤ y → place_at gap room x ≤ place_at gap room y
-climbs gap room x y first second order = grind (arith, nat_tests)
-
 pub seen_at : (rows : Rows) (i : ℕ) → i < length rows.kept → span_at (spans_of rows) i ≡ seen rows.gap rows.room (kept_at rows.kept i)
 seen_at rows i below = get_or-map (seen rows.gap rows.room) rows.kept i no_row no_span below
 
-module _ (rows : Rows) (by_start tops : List ℕ) (index : IsIndex rows.kept by_start tops) (offsets : All (AreOffsets rows.gap rows.room) rows.kept) where
+module _ (rows : Rows) (by_start tops : List ℕ) (index : IsIndex rows.kept by_start tops) (numbers : All (AreNumbers rows.gap rows.room) rows.kept) where
   pub all_within : All (λ i. i < length rows.kept) by_start
   all_within = placed_below (length rows.kept) by_start index.placed
 
@@ -35,8 +30,8 @@ module _ (rows : Rows) (by_start tops : List ℕ) (index : IsIndex rows.kept by_
     rising = λ i j d order below.
         let first = all_within i d (omega arith) in
         let second = all_within j d below in
-        let up = climbs rows.gap rows.room (kept_start rows.kept (get_or by_start i d)) (kept_start rows.kept (get_or by_start j d))
-        (offsets (get_or by_start i d) no_row first).start (offsets (get_or by_start j d) no_row second).start (index.rising i j d order below) in
+        let up = places_rise rows.gap rows.room _ _ (kept_start rows.kept (get_or by_start i d)) (kept_start rows.kept (get_or by_start j d))
+        (numbers (get_or by_start i d) no_row first).start (numbers (get_or by_start j d) no_row second).start (index.rising i j d order below) in
         omega (
           arith,
           up,
@@ -48,11 +43,11 @@ module _ (rows : Rows) (by_start tops : List ℕ) (index : IsIndex rows.kept by_
     topped = index.topped;
     bounded = λ k d below.
         let inside = all_within k d below in
-        let offset = (offsets (get_or by_start k d) no_row inside).end in
+        let number = (numbers (get_or by_start k d) no_row inside).end in
         let same = ap (λ span. span.end) (seen_at rows (get_or by_start k d) inside) in
         record {
-          below = λ less. omega (arith, same, is.below (kept_end rows.kept (get_or by_start k d)) offset less);
-          above = λ more. omega (arith, same, is.above (kept_end rows.kept (get_or by_start k d)) offset more);
+          below = λ less. omega (arith, same, is.below _ (kept_end rows.kept (get_or by_start k d)) number less);
+          above = λ more. omega (arith, same, is.above _ (kept_end rows.kept (get_or by_start k d)) number more);
         };
   }
 

@@ -1,6 +1,6 @@
 -- Rows of the kinds that are looked for apart: seats of watchers, those whose ends stay at boundaries of paragraphs, those
 -- that are part of a composing text, and those that end before they start.
-use Rattle.std.specs.Prelude.{ℕ, ◌≡◌, ◌<◌, nat_le, Bool, true, false, List, filter, length}
+use Rattle.std.specs.Prelude.{ℕ, ◌≡◌, ◌<◌, ◌/◌, nat_le, Bool, true, false, List, filter, length}
 use Rattle.std.specs.List.{range_with_len}
 use Rattle.edit_model.specs.State.{Span}
 use Rattle.edit_model.specs.Flags.{kind_of, is_composing, is_paragraph}
@@ -38,9 +38,9 @@ pub record IsTally (kept : List KeptRow) (paragraphs composing : ℕ) (seats : L
   pub listed : whole ≡ true → seats ≡ seats_of kept
   pub many : whole ≡ false → most_seats < length (seats_of kept)
 
--- the row is kept with its end no less than its start
+-- the row is kept with its end no less than its start, whatever their sides
 abbrev pub is_ahead : KeptRow → Bool
-is_ahead row = nat_le row.start row.end
+is_ahead row = nat_le (row.start / 2) (row.end / 2)
 
 -- both rows, or neither, stand at boundaries, are part of a composing text, and are seats; the other one is ahead
 pub record AreAlike (one other : KeptRow) : Type 0 where

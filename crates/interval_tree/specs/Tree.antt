@@ -36,7 +36,7 @@ pub record IsPlaced (count : ℕ) (places : List ℕ) : Type 0 where
 abbrev pub apart : ℕ → List ℕ → List ℕ
 apart count places = if nat_lt (length places) count then (count - 1) ∷ [] else []
 
--- the rows by their starts, and the greatest ends over that order: all of it in offsets. The last row may stand apart.
+-- the rows by their starts, and the greatest ends over that order: all of it in numbers. The last row may stand apart.
 pub record IsIndex (kept : List KeptRow) (by_start tops : List ℕ) : Type 0 where
   pub placed : IsPlaced (length kept) by_start
   pub rising : IsNonDecreasingBy (kept_start kept) by_start

@@ -8,14 +8,14 @@ use Rattle.edit_model.specs.Over.{is_picked, lies_over, touches}
 use Rattle.edit_model.specs.Replaced.{is_emptied}
 use Rattle.interval_tree.specs.declared.walk.Asked.{Asked}
 use Rattle.interval_tree.specs.declared.walk.Asked.TheVariants.{Over, Touching}
-use Rattle.span_table.specs.Offsets.{IsOffset, place_at}
+use Rattle.span_table.specs.Numbers.{IsNumber, place_of}
 use Rattle.span_table.specs.Table.{Rows, span_at, spans_of}
 use Rattle.interval_tree.specs.Tree.{Topped, kept_end}
 
--- the offsets below this one are those of the places before the start
+-- the numbers below this one are those of the places before the start
 pub record IsBound (gap room start bound : ℕ) : Type 0 where
-  pub below : (offset : ℕ) → IsOffset gap room offset → offset < bound → place_at gap room offset < start
-  pub above : (offset : ℕ) → IsOffset gap room offset → bound ≤ offset → start ≤ place_at gap room offset
+  pub below : (points : Bool) (number : ℕ) → IsNumber gap room points number → number < bound → place_of gap room number < start
+  pub above : (points : Bool) (number : ℕ) → IsNumber gap room points number → bound ≤ number → start ≤ place_of gap room number
 
 -- the same of the end of the row at a place
 pub record IsBoundAt (rows : Rows) (start bound i : ℕ) : Type 0 where

@@ -7,7 +7,7 @@ ghost use Rattle.std.specs.List.Sorted.{IsPermutation};
 ghost use Rattle.edit_model.specs.Attached.{is_attached};
 ghost use Rattle.edit_model.specs.Over.{next_edge, over};
 ghost use Rattle.edit_model.specs.Rows.{IsAtOrder, span_of, spans_in};
-ghost use Rattle.span_table.specs.Offsets.{bound};
+ghost use Rattle.span_table.specs.Numbers.{bound};
 ghost use Rattle.span_table.specs.Table.{HasRoomFor, IsClearOf, closed_span, kept_span};
 ghost use Rattle.span_table.specs.Table.{row_place, pushed_span, span_at, spans_of, without_at};
 ghost use Rattle.interval_tree.specs.Answers.{IsRising, IsWithin, first_emptied, orders_of, touching};
@@ -17,7 +17,7 @@ ghost use Rattle.interval_tree.specs.Tree.{IsIndex, IsPlaced};
 ghost use Rattle.interval_tree.specs.Whole.{IsWhole};
 
 use crate::ids::{find, place_last_id, sort_by_id};
-use crate::order::{place_last, put_row, remove_row, settle, take_out_within};
+use crate::order::{place_last, put_row, raise, remove_row, settle, take_out_within};
 use crate::query::{Tree, first_emptied, next_edge, over, seats_over, touching};
 use crate::tally::{Tally, counts_alike, tally_of};
 use edit_base::{NoMemory, Pick, SpanRow, Steps};
@@ -35,9 +35,9 @@ use std::sync::ledger::Ledger;
 #[derive(Drop)]
 pub struct SpanIndex {
     rows: SpanRows,
-    /// The places of the rows in order by start offset, without the last one where it stands apart.
+    /// The places of the rows in order by start number, without the last one where it stands apart.
     by_start: Vec<u32>,
-    /// At the middle of each slice of that order, the greatest end offset of the slice.
+    /// At the middle of each slice of that order, the greatest end number of the slice.
     tops: Vec<u64>,
     /// The places of the rows in order by id, without the last one where it stands apart.
     by_id: Vec<u32>,
@@ -179,7 +179,7 @@ impl SpanIndex {
     pub fn first_emptied(&self, start: u32, end: u32, grown: u32) -> Option<u32>
         ensures { result ≡ first_emptied start end grown (spans_of self.now) }
     {
-        // The call tells that the ends of each row are offsets.
+        // The call tells that the ends of each row are numbers.
         let _count = self.rows.count();
         if self.tally.forward {
             first_emptied(self.tree(), start, end, grown)
@@ -319,7 +319,7 @@ impl SpanIndex {
         Ok(())
     }
 
-    /// The gap goes to another place and gets another length; every row is seen as before.
+    /// The gap goes to another place and gets another length; every row is seen as before. The order by start stays.
     pub fn shift_for_gap(&mut self, old_gap: u32, new_gap: u32, old_room: u32, new_room: u32)
         requires gap { old_gap ≡ self.old.gap }
         requires room { old_room ≡ self.old.room }
@@ -329,9 +329,11 @@ impl SpanIndex {
         ensures room { self.new.room ≡ new_room }
         ensures spare { self.old.spare ≤ self.new.spare }
     {
+        // The call tells that the ends of each row are numbers.
+        let _count = self.rows.count();
         self.rows
             .shift_for_gap(old_gap, new_gap, old_room, new_room);
-        settle(&self.rows, &mut self.by_start, &mut self.tops);
+        raise(&self.rows, &self.by_start, &mut self.tops);
         self.tally = tally_of(&self.rows);
     }
 

@@ -286,7 +286,7 @@ fn sort_by_start(rows: &SpanRows, by_start: &mut [u32])
     by_start.sort_unstable_by_key(|&place| start_at(rows, place));
 }
 
-/// The start offset of the row at a place, or 0 behind the last row.
+/// The start number of the row at a place, or 0 behind the last row.
 fn start_at(rows: &SpanRows, place: u32) -> u64
     ensures { result ≡ kept_start rows.now.kept place }
 {
@@ -297,7 +297,7 @@ fn start_at(rows: &SpanRows, place: u32) -> u64
     }
 }
 
-/// The end offset of the row at a place, or 0 behind the last row.
+/// The end number of the row at a place, or 0 behind the last row.
 fn end_at(rows: &SpanRows, place: u32) -> u64
     ensures { result ≡ kept_end rows.now.kept place }
 {
@@ -309,7 +309,7 @@ fn end_at(rows: &SpanRows, place: u32) -> u64
 }
 
 /// Writes the greatest end of each slice at its middle, from the leaves up.
-fn raise(rows: &SpanRows, by_start: &[u32], tops: &mut [u64])
+pub fn raise(rows: &SpanRows, by_start: &[u32], tops: &mut [u64])
     requires long { length tops.old ≡ length by_start.now }
     ensures topped { Topped (map (kept_end rows.now.kept) by_start.now) tops.new }
     ensures long { length tops.new ≡ length by_start.now }

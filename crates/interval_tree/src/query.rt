@@ -8,7 +8,7 @@ ghost use Rattle.edit_base.specs.declared.rows.Pick.TheVariants as pick;
 ghost use Rattle.interval_tree.specs.declared.walk.Asked.TheVariants.{Over};
 ghost use Rattle.edit_model.specs.Over.{least, next_edge, over};
 ghost use Rattle.edit_model.specs.Rows.{IsAtOrder, spans_in};
-ghost use Rattle.span_table.specs.Offsets.{bound};
+ghost use Rattle.span_table.specs.Numbers.{bound};
 ghost use Rattle.span_table.specs.Table.{spans_of};
 ghost use Rattle.interval_tree.specs.Answers.{IsForward, IsWithin, first_emptied, orders_of, touching};
 ghost use Rattle.interval_tree.specs.Kinds.{seats_of};

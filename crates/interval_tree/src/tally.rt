@@ -54,7 +54,7 @@ impl Tally {
             self.new.seats.items self.new.whole }
         ensures ahead { self.new.forward ≡ (self.old.forward && is_ahead row.now) }
     {
-        self.forward &= row.start <= row.end;
+        self.forward &= is_ahead(row);
         self.paragraphs += u32::from(is_paragraph(kind_of_word(row.flags)));
         self.composing += u32::from(is_composing(row.flags));
         if !is_watch(row.what) {
@@ -97,5 +97,12 @@ pub fn counts_alike(one: &KeptRow, other: &KeptRow) -> bool
     is_paragraph(kind_of_word(one.flags)) == is_paragraph(kind_of_word(other.flags))
         && is_composing(one.flags) == is_composing(other.flags)
         && is_watch(one.what) == is_watch(other.what)
-        && other.start <= other.end
+        && is_ahead(other)
+}
+
+/// Whether the row is kept with its end no less than its start, whatever their sides.
+fn is_ahead(row: &KeptRow) -> bool
+    ensures { result ≡ is_ahead row.now }
+{
+    row.start / 2 <= row.end / 2
 }

@@ -11,7 +11,7 @@ ghost use Rattle.interval_tree.specs.Walk.{IsBound, IsBranch, IsWalk, answers, e
 
 use edit_base::{NoMemory, Pick, SpanRow, Steps};
 use span_flags::{is_emptied, is_picked, lies_over, touches};
-use span_table::SpanRows;
+use span_table::{SpanRows, number_at};
 use std::sync::ledger::Ledger;
 
 /// What is asked of a range.
@@ -23,7 +23,7 @@ pub enum Asked {
     Touching,
 }
 
-/// A range, the offset below which spans end before it, and what is asked of it.
+/// A range, the number below which spans end before it, and what is asked of it.
 #[derive(Clone, Copy)]
 pub struct Query {
     pub start: u32,
@@ -32,15 +32,12 @@ pub struct Query {
     pub asked: Asked,
 }
 
-/// The least offset whose place isn't before this one.
+/// The least number whose place isn't before this one.
+#[tactic(auto, using(crate::proofs::NumberOrder::place_bounds))]
 pub fn bound_of(gap: u32, room: u32, place: u32) -> u64
     ensures { IsBound gap room place result }
 {
-    if place <= gap {
-        u64::from(place)
-    } else {
-        u64::from(place) + u64::from(room)
-    }
+    number_at(gap, room, false, place)
 }
 
 /// Pushes the rows among these places that answer a query, in the order of the places, and reads few that don't.
@@ -120,7 +117,7 @@ fn answers(row: &SpanRow, query: &Query) -> bool
 
 // ---- emptied rows
 
-/// A range that becomes so many units, and the offset below which spans end before it.
+/// A range that becomes so many units, and the number below which spans end before it.
 #[derive(Clone, Copy)]
 pub struct Removal {
     pub start: u32,

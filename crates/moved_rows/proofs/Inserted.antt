@@ -11,7 +11,7 @@ use Rattle.edit_model.specs.State.{Span}
 use Rattle.edit_model.specs.EndTable.{end_of_span}
 use Rattle.edit_model.specs.Flags.{end_kind, is_paragraph, kind_of, start_kind}
 use Rattle.edit_model.specs.Replaced.{moved_span}
-use Rattle.span_table.specs.Offsets.{bound, is_point, pushed}
+use Rattle.span_table.specs.Numbers.{bound, is_point, pushed}
 use Rattle.span_table.specs.Table.{HasRoomFor, pushed_span}
 use Rattle.moved_rows.specs.Moving.{IsSpanWithin, is_appended}
 

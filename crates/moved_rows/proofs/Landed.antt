@@ -11,7 +11,7 @@ use Rattle.edit_model.specs.Flags.{end_kind, kind_of, start_kind}
 use Rattle.edit_model.specs.Over.{touches}
 use Rattle.edit_model.specs.Replaced.{moved_span}
 use Rattle.edit_model.specs.WellFormed.{IsSpanOver}
-use Rattle.span_table.specs.Offsets.{bound, closed, ends_behind, pushed, starts_behind, IsClear}
+use Rattle.span_table.specs.Numbers.{bound, closed, ends_behind, pushed, starts_behind, IsClear}
 use Rattle.span_table.specs.Table.{HasRoomFor, IsClearOf, closed_span, pushed_span}
 use Rattle.span_table.proofs.Lists.{map_both}
 use Rattle.interval_tree.specs.Answers.{IsForward}

@@ -8,7 +8,7 @@ use Rattle.std.proofs.lemmas.List.FromFn.{fill_by_all, length-map-range_with_len
 use Rattle.edit_model.specs.State.{Span}
 use Rattle.edit_model.specs.Changed.{Shift}
 use Rattle.span_table.specs.declared.kept.KeptRow.{KeptRow}
-use Rattle.span_table.specs.Table.{AreOffsets, kept_at, no_row, no_span, seen, span_at}
+use Rattle.span_table.specs.Table.{AreNumbers, kept_at, no_row, no_span, seen, span_at}
 use Rattle.moved_rows.specs.declared.moved.OldRow.{OldRow}
 use Rattle.moved_rows.specs.Moves.{AreEarlier, AreNoted, befores, no_old, noted, noted_at}
 
@@ -47,14 +47,14 @@ befores_begun kept olds stamp gap room stood stamps long all =
     (λ k within. get_or-map (seen gap room) kept k no_row no_span (omega (arith, all))
     ∙ ap (seen gap room) (sym (unnoted kept olds stamp k stamps (omega (arith, all, long))))))
 
--- and all stand at offsets
+-- and all are kept with numbers
 pub begun_noted : (kept : List KeptRow) (olds : List OldRow) (stamp gap room stood : ℕ) → AreEarlier stamp olds
-    → length olds ≡ length kept → stood ≡ length kept → All (AreOffsets gap room) kept → AreNoted kept olds stamp gap room stood
+    → length olds ≡ length kept → stood ≡ length kept → All (AreNumbers gap room) kept → AreNoted kept olds stamp gap room stood
 begun_noted kept olds stamp gap room stood stamps long all valid = record {
   long = long;
   within = omega (arith, all);
   stamps = λ k d within. (let old = stamps k d within in omega (arith, old));
-  offsets = λ i within. subst (AreOffsets gap room) (sym (unnoted kept olds stamp i stamps (omega (arith, all, long)))) (valid i no_row (omega (arith, all)));
+  numbers = λ i within. subst (AreNumbers gap room) (sym (unnoted kept olds stamp i stamps (omega (arith, all, long)))) (valid i no_row (omega (arith, all)));
 }
 
 -- the note that is read at a place
@@ -80,9 +80,9 @@ noted_more kept olds row old stamp gap room stood before none =
       long = length_push olds old ∙ ap (λ n. n + 1) before.long ∙ sym rows;
       within = omega (arith, rows, before.within);
       stamps = All-push (λ (note : OldRow). note.stamp ≤ stamp) olds old before.stamps (omega (arith, ap (λ (note : OldRow). note.stamp) none));
-      offsets = λ i within.
-          subst (AreOffsets gap room) (sym (noted_behind kept olds row old stamp i before.long (omega (arith, within, before.within))))
-          (before.offsets i within);
+      numbers = λ i within.
+          subst (AreNumbers gap room) (sym (noted_behind kept olds row old stamp i before.long (omega (arith, within, before.within))))
+          (before.numbers i within);
     }
 
 -- the row at a place is another, and was noted before

@@ -5,7 +5,7 @@ use Rattle.edit_model.specs.State.{Span}
 use Rattle.edit_model.specs.Changed.{Shift, has_moved, shifts_by}
 use Rattle.edit_model.specs.Rows.{span_of}
 use Rattle.span_table.specs.declared.kept.KeptRow.{KeptRow}
-use Rattle.span_table.specs.Table.{AreOffsets, Rows, kept_at, no_row, seen, span_at, spans_of}
+use Rattle.span_table.specs.Table.{AreNumbers, Rows, kept_at, no_row, seen, span_at, spans_of}
 use Rattle.moved_rows.specs.declared.moved.MovedRow.{MovedRow}
 use Rattle.moved_rows.specs.declared.moved.OldRow.{OldRow}
 
@@ -40,12 +40,12 @@ AreStamped stamp olds = All (λ old. old.stamp ≤ stamp) olds
 abbrev pub AreEarlier : ℕ → List OldRow → Type 0
 AreEarlier stamp olds = All (λ old. old.stamp < stamp) olds
 
--- a note for each row, none of a later edit, and those that stood stood at offsets
+-- a note for each row, none of a later edit, and those that stood are kept with numbers
 pub record AreNoted (kept : List KeptRow) (olds : List OldRow) (stamp gap room stood : ℕ) : Type 0 where
   pub long : length olds ≡ length kept
   pub within : stood ≤ length kept
   pub stamps : AreStamped stamp olds
-  pub offsets : (i : ℕ) → i < stood → AreOffsets gap room (noted_at kept olds stamp i)
+  pub numbers : (i : ℕ) → i < stood → AreNumbers gap room (noted_at kept olds stamp i)
 
 -- ---- how the rows moved
 

@@ -7,7 +7,7 @@ use Rattle.edit_model.specs.State.{Span}
 use Rattle.edit_model.specs.Over.{touches}
 use Rattle.edit_model.specs.Rows.{span_of}
 use Rattle.interval_tree.specs.Answers.{IsForward, orders_of}
-use Rattle.span_table.specs.Offsets.{closed, ends_behind, pushed, starts_behind}
+use Rattle.span_table.specs.Numbers.{closed, ends_behind, pushed, starts_behind}
 use Rattle.span_table.specs.Table.{span_at}
 
 -- an end that stands in [s, e] goes to the end of the range on its side

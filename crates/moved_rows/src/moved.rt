@@ -7,7 +7,7 @@ ghost use Rattle.edit_model.specs.Changed.{has_moved};
 ghost use Rattle.edit_model.specs.Rows.{span_of, spans_in};
 ghost use Rattle.interval_tree.specs.Answers.{IsRising, orders_of};
 ghost use Rattle.interval_tree.specs.Ids.{ids_given, same_number};
-ghost use Rattle.span_table.specs.Offsets.{bound};
+ghost use Rattle.span_table.specs.Numbers.{bound};
 ghost use Rattle.span_table.specs.Table.{HasRoomFor, IsClearOf, closed_span, kept_at, kept_span, pushed_span, seen, span_at, spans_of, without_at};
 ghost use Rattle.moved_rows.specs.Moves.{AreEarlier, ArePlaced, AreNoted, AreStamped, IsBegun, befores, is_set, moved_of, no_old, noted, noted_at, shift_at, shift_of, told_at, told_from};
 ghost use Rattle.moved_rows.specs.Iterated.{shifts_left};
@@ -34,7 +34,7 @@ struct OldRow {
 }
 
 /// The rows, and how each moved that stood before the last edit and wasn't removed by it, by its place in order of
-/// attachment. Nothing is written for a row that an edit leaves at its offset: what is told is read from the row, from
+/// attachment. Nothing is written for a row that an edit leaves at its number: what is told is read from the row, from
 /// its note, and from where the gap stood. There is nothing to tell of a row that a replacement left at its places, nor
 /// of one that a set or a removal of another span left.
 #[derive(Drop)]

@@ -7,7 +7,7 @@ ghost use Rattle.edit_model.specs.Boundaries.{next_boundary};
 ghost use Rattle.edit_model.specs.Replaced.{moved_span};
 ghost use Rattle.edit_model.specs.Rows.{IsAtOrder, span_of, spans_in};
 ghost use Rattle.interval_tree.specs.Answers.{IsForward, orders_of, touching};
-ghost use Rattle.span_table.specs.Offsets.{bound};
+ghost use Rattle.span_table.specs.Numbers.{bound};
 ghost use Rattle.span_table.specs.Table.{span_at, spans_of};
 ghost use Rattle.moved_rows.specs.Moves.{IsBegun, moved_of, moved_shifts};
 ghost use Rattle.moved_rows.specs.Moving.{AreTouched, IsSpanWithin, cleared, cleared_span, is_appended, landed, landed_span};

@@ -1,72 +1,87 @@
--- One end as the gap takes units, or lets units go.
-use Rattle.std.proofs.Common.{◌≡◌, ℕ, ◌<◌, ◌≤◌, ◌+◌, ◌-◌, Bool, true, false, arith}
+-- One end as the gap moves, takes units, or lets units go.
+use Rattle.std.proofs.Common.{◌≡◌, ℕ, ◌<◌, ◌≤◌, ◌+◌, ◌-◌, ◌/◌, Bool, true, false, arith, refl, sym, ap, ◌∙◌}
 use Rattle.std.proofs.lemmas.Bool.Decides.{nat_tests}
-use Rattle.span_table.specs.Offsets.{bound, offset_at, place_at, pushed, closed, IsOffset, IsSided, IsClear}
+use Rattle.span_table.specs.Numbers.{bare_of, bound, closed, number_at, opened, place_of, pushed, shut, IsClear, IsNumber}
 
--- ---- a place, and its offset
+-- ---- a place, and its number
 
-pub place_fits : (gap room offset : ℕ) → IsOffset gap room offset → place_at gap room offset < bound
-place_fits gap room offset valid = grind (arith, nat_tests)
+half_bare : (points : Bool) (place : ℕ) → bare_of points place / 2 ≡ place
+half_bare true place = omega arith
+half_bare false place = omega arith
 
-pub offset_place : (gap room : ℕ) (points : Bool) (place : ℕ) → place_at gap room (offset_at gap room points place) ≡ place
-offset_place gap room true place = grind (arith, nat_tests)
-offset_place gap room false place = grind (arith, nat_tests)
+shut_opened : (gap room bare : ℕ) → shut gap room (opened gap room bare) ≡ bare
+shut_opened gap room bare = grind (arith, nat_tests)
 
-pub offset_valid : (gap room : ℕ) (points : Bool) (place : ℕ) → place < bound → IsOffset gap room (offset_at gap room points place)
-offset_valid gap room true place fits =
-    record { behind = λ h. grind (arith, nat_tests); fits = grind (arith, nat_tests); before = λ h. grind (arith, nat_tests) }
-offset_valid gap room false place fits =
-    record { behind = λ h. grind (arith, nat_tests); fits = grind (arith, nat_tests); before = λ h. grind (arith, nat_tests) }
+pub number_place : (gap room : ℕ) (points : Bool) (place : ℕ) → place_of gap room (number_at gap room points place) ≡ place
+number_place gap room points place = ap (λ n. n / 2) (shut_opened gap room (bare_of points place)) ∙ half_bare points place
 
-pub offset_sided : (gap room : ℕ) (points : Bool) (place : ℕ) → IsSided gap room points (offset_at gap room points place)
-offset_sided gap room true place = record { behind = λ p h. grind (arith, nat_tests); before = λ p h. cc }
-offset_sided gap room false place = record { behind = λ p h. cc; before = λ p h. grind (arith, nat_tests) }
+pub number_valid : (gap room : ℕ) (points : Bool) (place : ℕ) → place < bound → IsNumber gap room points (number_at gap room points place)
+number_valid gap room points place fits =
+    let back = number_place gap room points place in
+    record { is = ap (number_at gap room points) (sym back); fits = omega (arith, back) }
+
+-- a number without its gap
+shut_bare : (gap room : ℕ) (points : Bool) (number : ℕ) → IsNumber gap room points number
+    → shut gap room number ≡ bare_of points (place_of gap room number)
+shut_bare gap room points number valid = ap (shut gap room) valid.is ∙ shut_opened gap room (bare_of points (place_of gap room number))
+
+-- the same end round another gap
+pub carried_number : (old_gap old_room gap room : ℕ) (points : Bool) (number : ℕ) → IsNumber old_gap old_room points number
+    → opened gap room (shut old_gap old_room number) ≡ number_at gap room points (place_of old_gap old_room number)
+carried_number old_gap old_room gap room points number valid = ap (opened gap room) (shut_bare old_gap old_room points number valid)
+
+-- what is the number of a place with one gap is that of another place with another gap
+elsewhere : (gap room other_gap other_room : ℕ) (points : Bool) (number to : ℕ) → IsNumber gap room points number
+    → number_at gap room points (place_of gap room number) ≡ number_at other_gap other_room points to → place_of other_gap other_room number ≡ to
+elsewhere gap room other_gap other_room points number to valid same =
+    ap (place_of other_gap other_room) (valid.is ∙ same) ∙ number_place other_gap other_room points to
+
+elsewhere_valid : (gap room other_gap other_room : ℕ) (points : Bool) (number to : ℕ) → IsNumber gap room points number
+    → number_at gap room points (place_of gap room number) ≡ number_at other_gap other_room points to → to < bound
+    → IsNumber other_gap other_room points number
+elsewhere_valid gap room other_gap other_room points number to valid same fits =
+    let back = elsewhere gap room other_gap other_room points number to valid same in
+    record { is = valid.is ∙ same ∙ ap (number_at other_gap other_room points) (sym back); fits = omega (arith, back, fits) }
 
 -- ---- n units come at the gap
 
-pub pushed_place : (gap room n : ℕ) (points : Bool) (offset : ℕ) → n ≤ room → IsOffset gap room offset → IsSided gap room points offset
-    → place_at (gap + n) (room - n) offset ≡ pushed gap n points (place_at gap room offset)
-pushed_place gap room n true offset within valid sided = grind (arith, nat_tests)
-pushed_place gap room n false offset within valid sided = grind (arith, nat_tests)
+pushed_number : (gap room n : ℕ) (points : Bool) (place : ℕ) → n ≤ room
+    → number_at gap room points place ≡ number_at (gap + n) (room - n) points (pushed gap n points place)
+pushed_number gap room n true place within = grind (arith, nat_tests)
+pushed_number gap room n false place within = grind (arith, nat_tests)
 
-pub pushed_valid : (gap room n offset : ℕ) → n ≤ room → IsOffset gap room offset → place_at gap room offset + n < bound
-    → IsOffset (gap + n) (room - n) offset
-pushed_valid gap room n offset within valid fits = record {
-  behind = λ h. omega arith;
-  fits = grind (arith, nat_tests);
-  before = λ h. grind (arith, nat_tests);
-}
+pushed_fits : (gap n : ℕ) (points : Bool) (place : ℕ) → place + n < bound → pushed gap n points place < bound
+pushed_fits gap n true place fits = grind (arith, nat_tests)
+pushed_fits gap n false place fits = grind (arith, nat_tests)
 
-pub pushed_sided : (gap room n : ℕ) (points : Bool) (offset : ℕ) → n ≤ room → IsOffset gap room offset → IsSided gap room points offset
-    → IsSided (gap + n) (room - n) points offset
-pushed_sided gap room n points offset within valid sided = record {
-  behind = λ p h. let old = sided.behind p in omega arith;
-  before = λ p h. let old = sided.before p in grind (arith, nat_tests);
-}
+pub pushed_place : (gap room n : ℕ) (points : Bool) (number : ℕ) → n ≤ room → IsNumber gap room points number
+    → place_of (gap + n) (room - n) number ≡ pushed gap n points (place_of gap room number)
+pushed_place gap room n points number within valid =
+    elsewhere gap room (gap + n) (room - n) points number _ valid (pushed_number gap room n points (place_of gap room number) within)
+
+pub pushed_valid : (gap room n : ℕ) (points : Bool) (number : ℕ) → n ≤ room → IsNumber gap room points number → place_of gap room number + n < bound
+    → IsNumber (gap + n) (room - n) points number
+pushed_valid gap room n points number within valid fits =
+    elsewhere_valid gap room (gap + n) (room - n) points number _ valid (pushed_number gap room n points (place_of gap room number) within)
+    (pushed_fits gap n points (place_of gap room number) fits)
 
 -- ---- the units from s to the gap go
 
-pub closed_place : (s gap room : ℕ) (points : Bool) (offset : ℕ) → s ≤ gap → IsOffset gap room offset → IsSided gap room points offset
-    → IsClear s gap points (place_at gap room offset) → place_at s (room + (gap - s)) offset ≡ closed s gap (place_at gap room offset)
-closed_place s gap room true offset order valid sided clear = grind (arith, nat_tests)
-closed_place s gap room false offset order valid sided clear = grind (arith, nat_tests)
+closed_number : (s gap room : ℕ) (points : Bool) (place : ℕ) → s ≤ gap → IsClear s gap points place
+    → number_at gap room points place ≡ number_at s (room + (gap - s)) points (closed s gap place)
+closed_number s gap room true place order clear = let off = clear.point refl in let out = clear.outside in grind (arith, nat_tests)
+closed_number s gap room false place order clear = let off = clear.mark refl in let out = clear.outside in grind (arith, nat_tests)
 
-pub closed_valid : (s gap room : ℕ) (points : Bool) (offset : ℕ) → s ≤ gap → IsOffset gap room offset → IsSided gap room points offset
-    → IsClear s gap points (place_at gap room offset) → IsOffset s (room + (gap - s)) offset
-closed_valid s gap room true offset order valid sided clear = record {
-  behind = λ h. grind (arith, nat_tests);
-  fits = grind (arith, nat_tests);
-  before = λ h. grind (arith, nat_tests);
-}
-closed_valid s gap room false offset order valid sided clear = record {
-  behind = λ h. grind (arith, nat_tests);
-  fits = grind (arith, nat_tests);
-  before = λ h. grind (arith, nat_tests);
-}
+closed_fits : (s gap place : ℕ) → place < bound → closed s gap place < bound
+closed_fits s gap place fits = grind (arith, nat_tests)
 
-pub closed_sided : (s gap room : ℕ) (points : Bool) (offset : ℕ) → s ≤ gap → IsOffset gap room offset → IsSided gap room points offset
-    → IsClear s gap points (place_at gap room offset) → IsSided s (room + (gap - s)) points offset
-closed_sided s gap room points offset order valid sided clear = record {
-  behind = λ p h. let old = sided.behind p in let off = clear.point p in grind (arith, nat_tests);
-  before = λ p h. let old = sided.before p in let off = clear.mark p in grind (arith, nat_tests);
-}
+pub closed_place : (s gap room : ℕ) (points : Bool) (number : ℕ) → s ≤ gap → IsNumber gap room points number
+    → IsClear s gap points (place_of gap room number) → place_of s (room + (gap - s)) number ≡ closed s gap (place_of gap room number)
+closed_place s gap room points number order valid clear =
+    elsewhere gap room s (room + (gap - s)) points number _ valid (closed_number s gap room points (place_of gap room number) order clear)
+
+pub closed_valid : (s gap room : ℕ) (points : Bool) (number : ℕ) → s ≤ gap → IsNumber gap room points number
+    → IsClear s gap points (place_of gap room number) → IsNumber s (room + (gap - s)) points number
+closed_valid s gap room points number order valid clear =
+    elsewhere_valid gap room s (room + (gap - s)) points number _ valid (closed_number s gap room points (place_of gap room number) order clear)
+    (closed_fits s gap (place_of gap room number) valid.fits)

@@ -8,10 +8,9 @@ use Rattle.std.proofs.lemmas.List.Elements.{All-map}
 use Rattle.edit_model.specs.State.{Span}
 use Rattle.edit_model.specs.Attached.{has_id}
 use Rattle.span_table.specs.declared.kept.KeptRow.{KeptRow}
-use Rattle.span_table.specs.Offsets.{bound, starts_behind, ends_behind}
-use Rattle.span_table.specs.Table.{AreOffsets, HasRoomFor, IsClearOf, closed_span, kept_span, no_span, row_place, pushed_span, seen, span_at, without_at}
-use Rattle.span_table.proofs.Ends.{place_fits, offset_place, offset_valid, offset_sided}
-use Rattle.span_table.proofs.Ends.{pushed_place, pushed_valid, pushed_sided, closed_place, closed_valid, closed_sided}
+use Rattle.span_table.specs.Numbers.{bound, ends_behind, opened, shut, starts_behind}
+use Rattle.span_table.specs.Table.{AreNumbers, HasRoomFor, IsClearOf, closed_span, kept_span, no_span, row_place, pushed_span, seen, span_at, without_at}
+use Rattle.span_table.proofs.Ends.{number_place, number_valid, carried_number, pushed_place, pushed_valid, closed_place, closed_valid}
 
 -- ---- lists
 
@@ -63,7 +62,7 @@ same_places span start end starts ends = rw (starts, ends) refl
 
 pub kept_seen : (gap room : ℕ) (span : Span) → seen gap room (kept_span gap room span) ≡ span
 kept_seen gap room span =
-    same_places span _ _ (offset_place gap room (starts_behind span.flags) span.start) (offset_place gap room (ends_behind span.flags) span.end)
+    same_places span _ _ (number_place gap room (starts_behind span.flags) span.start) (number_place gap room (ends_behind span.flags) span.end)
 
 -- the row at a place becomes one that is seen as this span
 pub set_seen : (gap room : ℕ) (rows : List KeptRow) (i : ℕ) (row : KeptRow) (span : Span) → seen gap room row ≡ span
@@ -75,72 +74,75 @@ pub span_there : (gap room : ℕ) (rows : List KeptRow) (i : ℕ) (row : KeptRow
     → seen gap room row ≡ span_at (map (seen gap room) rows) i
 span_there gap room rows i row within is = ap (seen gap room) is ∙ sym (get_or-map (seen gap room) rows i row no_span within)
 
-pub kept_valid : (gap room : ℕ) (span : Span) → span.start < bound → span.end < bound → AreOffsets gap room (kept_span gap room span)
+pub kept_valid : (gap room : ℕ) (span : Span) → span.start < bound → span.end < bound → AreNumbers gap room (kept_span gap room span)
 kept_valid gap room span starts ends = record {
-  start = offset_valid gap room (starts_behind span.flags) span.start starts;
-  end = offset_valid gap room (ends_behind span.flags) span.end ends;
-  start_side = offset_sided gap room (starts_behind span.flags) span.start;
-  end_side = offset_sided gap room (ends_behind span.flags) span.end;
+  start = number_valid gap room (starts_behind span.flags) span.start starts;
+  end = number_valid gap room (ends_behind span.flags) span.end ends;
 }
+
+-- the row of the same span, with another gap
+pub carried_row : (old_gap old_room gap room : ℕ) (row : KeptRow) (start end : ℕ) → AreNumbers old_gap old_room row
+    → start ≡ opened gap room (shut old_gap old_room row.start) → end ≡ opened gap room (shut old_gap old_room row.end)
+    → record { id = row.id; flags = row.flags; start = start; end = end; what = row.what } ≡ kept_span gap room (seen old_gap old_room row)
+carried_row old_gap old_room gap room row start end valid starts ends =
+    let from = starts ∙ carried_number old_gap old_room gap room (starts_behind row.flags) row.start valid.start in
+    let to = ends ∙ carried_number old_gap old_room gap room (ends_behind row.flags) row.end valid.end in
+    rw (from, to) refl
 
 -- rows that are kept anew
 pub anew_seen : (gap room : ℕ) (spans : List Span) → map (seen gap room) (map (kept_span gap room) spans) ≡ spans
 anew_seen gap room spans = undone _ _ spans (kept_seen gap room)
 
-pub anew_valid : (old_gap old_room gap room : ℕ) (rows : List KeptRow) → All (AreOffsets old_gap old_room) rows
-    → All (AreOffsets gap room) (map (kept_span gap room) (map (seen old_gap old_room) rows))
+pub anew_valid : (old_gap old_room gap room : ℕ) (rows : List KeptRow) → All (AreNumbers old_gap old_room) rows
+    → All (AreNumbers gap room) (map (kept_span gap room) (map (seen old_gap old_room) rows))
 anew_valid old_gap old_room gap room rows valid =
-    subst (All (AreOffsets gap room)) (map_both (kept_span gap room) (seen old_gap old_room) rows)
-    (All-map (AreOffsets gap room) (λ row. kept_span gap room (seen old_gap old_room row)) rows
-    (λ k d h. let at = valid k d h in kept_valid gap room _ (place_fits old_gap old_room _ at.start) (place_fits old_gap old_room _ at.end)))
+    subst (All (AreNumbers gap room)) (map_both (kept_span gap room) (seen old_gap old_room) rows)
+    (All-map (AreNumbers gap room) (λ row. kept_span gap room (seen old_gap old_room row)) rows
+    (λ k d h. let at = valid k d h in kept_valid gap room _ at.start.fits at.end.fits))
 
 -- ---- rows as the gap takes units, or lets units go
 
 module _ (gap room n : ℕ) (within : n ≤ room) where
-  pushed_row : (row : KeptRow) → AreOffsets gap room row
+  pushed_row : (row : KeptRow) → AreNumbers gap room row
       → seen (gap + n) (room - n) row ≡ pushed_span gap n (seen gap room row)
   pushed_row row valid =
-      let start = pushed_place gap room n (starts_behind row.flags) row.start within valid.start valid.start_side in
-      let end = pushed_place gap room n (ends_behind row.flags) row.end within valid.end valid.end_side in
+      let start = pushed_place gap room n (starts_behind row.flags) row.start within valid.start in
+      let end = pushed_place gap room n (ends_behind row.flags) row.end within valid.end in
       cc
 
-  pushed_offsets : (row : KeptRow) → AreOffsets gap room row → HasRoomFor n (seen gap room row) → AreOffsets (gap + n) (room - n) row
-  pushed_offsets row valid fits = record {
-    start = pushed_valid gap room n row.start within valid.start fits.start;
-    end = pushed_valid gap room n row.end within valid.end fits.end;
-    start_side = pushed_sided gap room n (starts_behind row.flags) row.start within valid.start valid.start_side;
-    end_side = pushed_sided gap room n (ends_behind row.flags) row.end within valid.end valid.end_side;
+  pushed_numbers : (row : KeptRow) → AreNumbers gap room row → HasRoomFor n (seen gap room row) → AreNumbers (gap + n) (room - n) row
+  pushed_numbers row valid fits = record {
+    start = pushed_valid gap room n (starts_behind row.flags) row.start within valid.start fits.start;
+    end = pushed_valid gap room n (ends_behind row.flags) row.end within valid.end fits.end;
   }
 
-  pub pushed_spans : (rows : List KeptRow) → All (AreOffsets gap room) rows
+  pub pushed_spans : (rows : List KeptRow) → All (AreNumbers gap room) rows
       → map (seen (gap + n) (room - n)) rows ≡ map (pushed_span gap n) (map (seen gap room) rows)
   pushed_spans rows valid = maps_agree _ _ _ rows (λ k d h. pushed_row _ (valid k d h))
 
-  pub pushed_all : (rows : List KeptRow) → All (AreOffsets gap room) rows → All (HasRoomFor n) (map (seen gap room) rows)
-      → All (AreOffsets (gap + n) (room - n)) rows
-  pushed_all rows valid fits k d h = pushed_offsets _ (valid k d h) (at_image (HasRoomFor n) (seen gap room) rows fits k d h)
+  pub pushed_all : (rows : List KeptRow) → All (AreNumbers gap room) rows → All (HasRoomFor n) (map (seen gap room) rows)
+      → All (AreNumbers (gap + n) (room - n)) rows
+  pushed_all rows valid fits k d h = pushed_numbers _ (valid k d h) (at_image (HasRoomFor n) (seen gap room) rows fits k d h)
 
 module _ (s gap room : ℕ) (order : s ≤ gap) where
-  closed_row : (row : KeptRow) → AreOffsets gap room row → IsClearOf s gap (seen gap room row)
+  closed_row : (row : KeptRow) → AreNumbers gap room row → IsClearOf s gap (seen gap room row)
       → seen s (room + (gap - s)) row ≡ closed_span s gap (seen gap room row)
   closed_row row valid clear =
-      let start = closed_place s gap room (starts_behind row.flags) row.start order valid.start valid.start_side clear.start in
-      let end = closed_place s gap room (ends_behind row.flags) row.end order valid.end valid.end_side clear.end in
+      let start = closed_place s gap room (starts_behind row.flags) row.start order valid.start clear.start in
+      let end = closed_place s gap room (ends_behind row.flags) row.end order valid.end clear.end in
       cc
 
-  closed_offsets : (row : KeptRow) → AreOffsets gap room row → IsClearOf s gap (seen gap room row) → AreOffsets s (room + (gap - s)) row
-  closed_offsets row valid clear = record {
-    start = closed_valid s gap room (starts_behind row.flags) row.start order valid.start valid.start_side clear.start;
-    end = closed_valid s gap room (ends_behind row.flags) row.end order valid.end valid.end_side clear.end;
-    start_side = closed_sided s gap room (starts_behind row.flags) row.start order valid.start valid.start_side clear.start;
-    end_side = closed_sided s gap room (ends_behind row.flags) row.end order valid.end valid.end_side clear.end;
+  closed_numbers : (row : KeptRow) → AreNumbers gap room row → IsClearOf s gap (seen gap room row) → AreNumbers s (room + (gap - s)) row
+  closed_numbers row valid clear = record {
+    start = closed_valid s gap room (starts_behind row.flags) row.start order valid.start clear.start;
+    end = closed_valid s gap room (ends_behind row.flags) row.end order valid.end clear.end;
   }
 
-  pub closed_spans : (rows : List KeptRow) → All (AreOffsets gap room) rows → All (IsClearOf s gap) (map (seen gap room) rows)
+  pub closed_spans : (rows : List KeptRow) → All (AreNumbers gap room) rows → All (IsClearOf s gap) (map (seen gap room) rows)
       → map (seen s (room + (gap - s))) rows ≡ map (closed_span s gap) (map (seen gap room) rows)
   closed_spans rows valid clear =
       maps_agree _ _ _ rows (λ k d h. closed_row _ (valid k d h) (at_image (IsClearOf s gap) (seen gap room) rows clear k d h))
 
-  pub closed_all : (rows : List KeptRow) → All (AreOffsets gap room) rows → All (IsClearOf s gap) (map (seen gap room) rows)
-      → All (AreOffsets s (room + (gap - s))) rows
-  closed_all rows valid clear k d h = closed_offsets _ (valid k d h) (at_image (IsClearOf s gap) (seen gap room) rows clear k d h)
+  pub closed_all : (rows : List KeptRow) → All (AreNumbers gap room) rows → All (IsClearOf s gap) (map (seen gap room) rows)
+      → All (AreNumbers s (room + (gap - s))) rows
+  closed_all rows valid clear k d h = closed_numbers _ (valid k d h) (at_image (IsClearOf s gap) (seen gap room) rows clear k d h)

@@ -1,2 +1,2 @@
-pub mod Offsets
+pub mod Numbers
 pub mod Table

@@ -1,10 +1,10 @@
--- Rows whose ends are kept as offsets.
+-- Rows whose ends are kept as numbers.
 use Rattle.std.specs.Prelude.{ℕ, ◌<◌, ◌+◌, ◌++◌, List, map, take, drop, slice_index_or, Option, position}
 use Rattle.edit_base.specs.declared.kinds.What.TheVariants.{Tag}
 use Rattle.edit_model.specs.State.{Span}
 use Rattle.edit_model.specs.Attached.{has_id}
 use Rattle.span_table.specs.declared.kept.KeptRow.{KeptRow}
-use Rattle.span_table.specs.Offsets.{bound, place_at, offset_at, starts_behind, ends_behind, IsOffset, IsSided, IsClear, pushed, closed}
+use Rattle.span_table.specs.Numbers.{bound, place_of, number_at, starts_behind, ends_behind, IsNumber, IsClear, pushed, closed}
 
 -- the rows in order of attachment, the gap's place and its length, and how many rows may come before memory is asked for
 pub record Rows : Type 0 where
@@ -17,8 +17,8 @@ pub record Rows : Type 0 where
 abbrev pub seen : ℕ → ℕ → KeptRow → Span
 seen gap room row = record {
   id = row.id;
-  start = place_at gap room row.start;
-  end = place_at gap room row.end;
+  start = place_of gap room row.start;
+  end = place_of gap room row.end;
   flags = row.flags;
   what = row.what;
 }
@@ -31,8 +31,8 @@ abbrev pub kept_span : ℕ → ℕ → Span → KeptRow
 kept_span gap room span = record {
   id = span.id;
   flags = span.flags;
-  start = offset_at gap room (starts_behind span.flags) span.start;
-  end = offset_at gap room (ends_behind span.flags) span.end;
+  start = number_at gap room (starts_behind span.flags) span.start;
+  end = number_at gap room (ends_behind span.flags) span.end;
   what = span.what;
 }
 
@@ -61,12 +61,10 @@ without_at i xs = take i xs ++ drop (i + 1) xs
 abbrev pub with_ends : ℕ → ℕ → Span → Span
 with_ends start end span = record span { start = start; end = end }
 
--- both ends of a row are offsets, each on its side of the gap
-pub record AreOffsets (gap room : ℕ) (row : KeptRow) : Type 0 where
-  pub start : IsOffset gap room row.start
-  pub end : IsOffset gap room row.end
-  pub start_side : IsSided gap room (starts_behind row.flags) row.start
-  pub end_side : IsSided gap room (ends_behind row.flags) row.end
+-- both ends of a row are numbers, each of its side
+pub record AreNumbers (gap room : ℕ) (row : KeptRow) : Type 0 where
+  pub start : IsNumber gap room (starts_behind row.flags) row.start
+  pub end : IsNumber gap room (ends_behind row.flags) row.end
 
 -- ---- spans when text comes or goes at the gap
 

@@ -1,12 +1,12 @@
-//! Rows of spans in order of attachment, whose ends are kept as offsets round a gap.
+//! Rows of spans in order of attachment, whose ends are kept as numbers round a gap.
 #![tactic(auto)]
 
 mod kept;
-mod offsets;
+mod numbers;
 mod room;
 mod table;
 
 pub use kept::KeptRow;
-pub use offsets::is_point;
+pub use numbers::{is_point, number_at};
 pub use room::push_within;
 pub use table::SpanRows;

@@ -3,8 +3,8 @@
 ghost use Rattle.std.specs.Prelude.{◌≡◌, ◌≤◌, ◌<◌, ◌+◌, ◌-◌, ◌++◌, [], ◌∷◌, length, map, IfOk, OnOk, OnErr, IsOk};
 ghost use Rattle.std.specs.List.{All, slice_set};
 ghost use Rattle.edit_model.specs.Rows.{span_of};
-ghost use Rattle.span_table.specs.Offsets.{bound};
-ghost use Rattle.span_table.specs.Table.{AreOffsets, HasRoomFor, IsClearOf, closed_span, pushed_span};
+ghost use Rattle.span_table.specs.Numbers.{bound};
+ghost use Rattle.span_table.specs.Table.{AreNumbers, HasRoomFor, IsClearOf, closed_span, pushed_span};
 ghost use Rattle.span_table.specs.Table.{kept_at, kept_span, row_place, seen, span_at, spans_of, with_ends, without_at};
 
 use crate::kept::{KeptRow, keep_anew};
@@ -26,8 +26,8 @@ pub struct SpanRows {
 impl Model for SpanRows {
     ghost use Rattle.std.specs.Prelude.{◌-◌, ◌<◌, length, vec_capacity};
     ghost use Rattle.std.specs.List.{All};
-    ghost use Rattle.span_table.specs.Offsets.{bound};
-    ghost use Rattle.span_table.specs.Table.{AreOffsets, Rows};
+    ghost use Rattle.span_table.specs.Numbers.{bound};
+    ghost use Rattle.span_table.specs.Table.{AreNumbers, Rows};
 
     ghost Value = { Rows };
 
@@ -39,7 +39,7 @@ impl Model for SpanRows {
     } };
 
     ghost invariant = { λ it. record {
-      offsets : All (AreOffsets it.gap it.room) it.rows.items;
+      numbers : All (AreNumbers it.gap it.room) it.rows.items;
       few : length it.rows.items < bound;
       gap_fits : it.gap < bound;
       room_fits : it.room < bound;
@@ -65,7 +65,7 @@ impl SpanRows {
     pub fn count(&self) -> u32
         ensures count { result ≡ length self.now.kept }
         ensures bound { length self.now.kept < bound }
-        ensures offsets { All (AreOffsets self.now.gap self.now.room) self.now.kept }
+        ensures numbers { All (AreNumbers self.now.gap self.now.room) self.now.kept }
         ensures gap { self.now.gap < bound }
         ensures room { self.now.room < bound }
     {
@@ -118,7 +118,7 @@ impl SpanRows {
     pub fn kept(&self, i: u32) -> KeptRow
         requires { i < length self.now.kept }
         ensures row { result ≡ kept_at self.now.kept i }
-        ensures offsets { AreOffsets self.now.gap self.now.room result }
+        ensures numbers { AreNumbers self.now.gap self.now.room result }
         ensures span { seen self.now.gap self.now.room result ≡ span_at (spans_of self.now) i }
     {
         self.rows[i as usize]

@@ -10,7 +10,7 @@ use Rattle.interval_tree.proofs.query.first_emptied.Goals as goal
 
 pub least_emptied-first-requires : goal.least_emptied-first-requires
 least_emptied-first-requires c = record {
-  branch = branch_whole c.args.tree.rows.now c.args.tree.by_start.now c.args.tree.tops.now c.requires.index c.count-count.ensures.offsets c.args.start
+  branch = branch_whole c.args.tree.rows.now c.args.tree.by_start.now c.args.tree.tops.now c.requires.index c.count-count.ensures.numbers c.args.start
       c.bound_of.result
       (subst (λ gap. IsBound gap c.args.tree.rows.now.room c.args.start c.bound_of.result) c.gap.ensures
       (subst (λ room. IsBound c.gap.result room c.args.start c.bound_of.result) c.room.ensures c.bound_of.ensures));

@@ -9,7 +9,7 @@ use Rattle.interval_tree.proofs.WalkParts.{found_append, found_short}
 use Rattle.interval_tree.proofs.query.gather.Goals as goal
 
 pub visit-requires : goal.visit-requires
-visit-requires g c = branch_whole c.args.tree.rows.now c.args.tree.by_start.now c.args.tree.tops.now c.requires.index c.count-count.ensures.offsets
+visit-requires g c = branch_whole c.args.tree.rows.now c.args.tree.by_start.now c.args.tree.tops.now c.requires.index c.count-count.ensures.numbers
     c.args.query.now.start c.args.query.now.bound c.requires.bound
 
 pub returns-clause-ok : goal.returns-clause-ok

@@ -3,7 +3,7 @@ use Rattle.std.proofs.Common.{◌+◌, ◌<◌, length, map, arith, subst, sym, 
 use Rattle.std.specs.List.{All}
 use Rattle.std.proofs.lemmas.List.{length-append}
 use Rattle.edit_model.specs.Replaced.{moved_span}
-use Rattle.span_table.specs.Offsets.{bound}
+use Rattle.span_table.specs.Numbers.{bound}
 use Rattle.span_table.specs.Table.{IsClearOf, HasRoomFor, closed_span, pushed_span, spans_of}
 use Rattle.moved_rows.specs.Moves.{moved_shifts}
 use Rattle.moved_rows.specs.Moving.{AreTouched, landed_span}

@@ -2,18 +2,18 @@
 use Rattle.std.proofs.Common.{arith, map, sym, subst, ap, ◌∙◌}
 use Rattle.std.specs.List.{All}
 use Rattle.edit_model.proofs.InPlace.{maps_read, maps_more, maps_all}
-use Rattle.span_table.specs.Table.{AreOffsets, kept_span, no_row, seen}
+use Rattle.span_table.specs.Table.{AreNumbers, kept_span, no_row, seen}
 use Rattle.span_table.proofs.Lists.{anew_seen, anew_valid, map_both}
 use Rattle.span_table.proofs.kept.keep_anew.Goals as goal
 
 pub loop-row-preserved : goal.loop-row-preserved
 loop-row-preserved c =
     maps_more c.loop-row.invariant _ no_row (omega arith)
-    (c.new.ensures.row ∙ ap (kept_span c.args.new_gap c.args.new_room) c.seen.ensures.span)
+    c.carried.ensures
 
-pub seen-requires : goal.seen-requires
-seen-requires c =
-    subst (AreOffsets c.args.old_gap c.args.old_room) (sym (maps_read c.loop-row.invariant no_row))
+pub carried-requires : goal.carried-requires
+carried-requires c =
+    subst (AreNumbers c.args.old_gap c.args.old_room) (sym (maps_read c.loop-row.invariant no_row))
     (c.requires c.loop-row.row-index no_row (omega (arith, c.loop-row.invariant.long)))
 
 pub returns-clause-kept : goal.returns-clause-kept
@@ -26,7 +26,7 @@ returns-clause-spans c =
     let anew = returns-clause-kept c in
     ap (map (seen c.args.new_gap c.args.new_room)) anew ∙ anew_seen c.args.new_gap c.args.new_room _
 
-pub returns-clause-offsets : goal.returns-clause-offsets
-returns-clause-offsets c =
+pub returns-clause-numbers : goal.returns-clause-numbers
+returns-clause-numbers c =
     let anew = returns-clause-kept c in
-    subst (All (AreOffsets c.args.new_gap c.args.new_room)) (sym anew) (anew_valid c.args.old_gap c.args.old_room _ _ c.args.rows.now c.requires)
+    subst (All (AreNumbers c.args.new_gap c.args.new_room)) (sym anew) (anew_valid c.args.old_gap c.args.old_room _ _ c.args.rows.now c.requires)

@@ -10,4 +10,4 @@ pub first_emptied-requires-clause-forward : goal.first_emptied-requires-clause-f
 first_emptied-requires-clause-forward c =
     let rows = c.self.inside.rows in
     subst (All IsForward) (ap spans_of c.self.view_is ∙ sym c.tree.ensures.spans)
-    (all_forward rows.gap rows.room rows.kept c.count-count.ensures.offsets (sym c.self.invariant.whole.ahead ∙ c.if-self.true))
+    (all_forward rows.gap rows.room rows.kept c.count-count.ensures.numbers (sym c.self.invariant.whole.ahead ∙ c.if-self.true))

@@ -3,7 +3,7 @@ use Rattle.std.proofs.Common.{ℕ, ◌≡◌, ◌<◌, length, sym, subst, ap, �
 use Rattle.std.specs.List.{slice_set}
 use Rattle.std.proofs.lemmas.List.{length-set}
 use Rattle.edit_model.specs.Rows.{span_of}
-use Rattle.span_table.specs.Table.{AreOffsets, kept_span}
+use Rattle.span_table.specs.Table.{AreNumbers, kept_span}
 use Rattle.moved_rows.specs.Moves.{Moves, noted_at}
 use Rattle.moved_rows.proofs.Notes.{befores_length, befores_same, noted_put}
 use Rattle.moved_rows.proofs.moved.MovedRows.put.Goals as goal
@@ -43,7 +43,7 @@ invariant_of-self c =
       long = omega (arith, long, c.note.ensures.long, c.note.new.olds.ok, it.olds.ok, c.self.invariant.long);
       within = omega (arith, long, c.self.invariant.within);
       stamps = c.note.ensures.stamps;
-      offsets = λ j within. subst (AreOffsets it.gap it.room) (sym (noted_still c j)) (c.self.invariant.offsets j within);
+      numbers = λ j within. subst (AreNumbers it.gap it.room) (sym (noted_still c j)) (c.self.invariant.numbers j within);
     }
 
 pub returns-clause-before : goal.returns-clause-before

@@ -1,6 +1,6 @@
 -- The row, as it was noted.
 use Rattle.std.proofs.Common.{◌<◌, length, sym, subst, ap, ◌∙◌, arith}
-use Rattle.span_table.specs.Table.{AreOffsets, kept_at, seen, span_at, spans_of}
+use Rattle.span_table.specs.Table.{AreNumbers, kept_at, seen, span_at, spans_of}
 use Rattle.moved_rows.specs.Moves.{Moves}
 use Rattle.moved_rows.proofs.Notes.{befores_length, befores_at, noted_read, same_shift, seen_same}
 use Rattle.moved_rows.proofs.moved.MovedRows.shift.Goals as goal
@@ -22,7 +22,7 @@ seen-requires c =
     let row = c.kept-row.ensures.row ∙ ap (λ kept. kept_at kept c.args.i) c.rows-rows.ensures.kept in
     let note = c.noted.ensures ∙ noted_read it.rows.kept it.olds.items it.stamp c.args.i c.index.result.now c.kept-row.result
     (omega (arith, stood, c.self.invariant.within, c.self.invariant.long)) c.index.ensures row in
-    subst (AreOffsets it.gap it.room) (sym note) (c.self.invariant.offsets c.args.i stood)
+    subst (AreNumbers it.gap it.room) (sym note) (c.self.invariant.numbers c.args.i stood)
 
 pub returns : goal.returns
 returns c =

@@ -3,7 +3,7 @@ use Rattle.std.proofs.Common.{◌<◌, arith, ap, length, map, sym, subst, ◌�
 use Rattle.std.specs.List.{slice_set}
 use Rattle.std.proofs.lemmas.List.{length-set}
 use Rattle.std.proofs.lemmas.List.Elements.{All-set}
-use Rattle.span_table.specs.Table.{AreOffsets, Rows, seen, span_at, spans_of, with_ends}
+use Rattle.span_table.specs.Table.{AreNumbers, Rows, seen, span_at, spans_of, with_ends}
 use Rattle.span_table.proofs.Lists.{set_seen, span_there}
 use Rattle.span_table.proofs.table.SpanRows.move_ends.Goals as goal
 
@@ -11,7 +11,7 @@ pub invariant_of-self : goal.invariant_of-self
 invariant_of-self c =
     let rows = c.self.inside.rows.items in
     record {
-      offsets = All-set (AreOffsets c.self.inside.gap c.self.inside.room) rows c.args.i c.new.result c.new.ensures.offsets c.self.invariant.offsets;
+      numbers = All-set (AreNumbers c.self.inside.gap c.self.inside.room) rows c.args.i c.new.result c.new.ensures.numbers c.self.invariant.numbers;
       few = omega (arith, length-set rows c.args.i c.new.result);
       gap_fits = c.self.invariant.gap_fits;
       room_fits = c.self.invariant.room_fits;

@@ -4,7 +4,7 @@ use Rattle.std.specs.List.{slice_set}
 use Rattle.std.proofs.lemmas.List.{length-set}
 use Rattle.std.proofs.lemmas.List.Elements.{All-set}
 use Rattle.edit_model.specs.Rows.{span_of}
-use Rattle.span_table.specs.Table.{AreOffsets, Rows, spans_of}
+use Rattle.span_table.specs.Table.{AreNumbers, Rows, spans_of}
 use Rattle.span_table.proofs.Lists.{set_seen}
 use Rattle.span_table.proofs.table.SpanRows.put.Goals as goal
 
@@ -12,7 +12,7 @@ pub invariant_of-self : goal.invariant_of-self
 invariant_of-self c =
     let rows = c.self.inside.rows.items in
     record {
-      offsets = All-set (AreOffsets c.self.inside.gap c.self.inside.room) rows c.args.i c.new.result c.new.ensures.offsets c.self.invariant.offsets;
+      numbers = All-set (AreNumbers c.self.inside.gap c.self.inside.room) rows c.args.i c.new.result c.new.ensures.numbers c.self.invariant.numbers;
       few = omega (arith, length-set rows c.args.i c.new.result);
       gap_fits = c.self.invariant.gap_fits;
       room_fits = c.self.invariant.room_fits;

@@ -1,4 +1,4 @@
--- Each offset stands for its place pushed.
+-- Each number stands for its place pushed.
 use Rattle.std.proofs.Common.{◌≤◌, ap, sym, subst, arith}
 use Rattle.std.specs.List.{All}
 use Rattle.span_table.specs.Table.{HasRoomFor, Rows, spans_of}
@@ -11,8 +11,8 @@ invariant_of-self c =
     let gap = ap (λ (r : Rows). r.gap) c.self.view_is in
     let room = ap (λ (r : Rows). r.room) c.self.view_is in
     record {
-      offsets = pushed_all _ _ c.args.units (subst (λ (r : Rows). c.args.units ≤ r.room) seen c.requires.room) c.self.inside.rows.items
-          c.self.invariant.offsets (subst (λ (r : Rows). All (HasRoomFor c.args.units) (spans_of r)) seen c.requires.fits);
+      numbers = pushed_all _ _ c.args.units (subst (λ (r : Rows). c.args.units ≤ r.room) seen c.requires.room) c.self.inside.rows.items
+          c.self.invariant.numbers (subst (λ (r : Rows). All (HasRoomFor c.args.units) (spans_of r)) seen c.requires.fits);
       few = c.self.invariant.few;
       gap_fits = omega (arith, gap);
       room_fits = omega (arith, gap, room);
@@ -21,4 +21,4 @@ invariant_of-self c =
 pub returns-clause-spans : goal.returns-clause-spans
 returns-clause-spans c =
     let room = subst (λ (r : Rows). c.args.units ≤ r.room) (sym c.self.view_is) c.requires.room in
-    rw (← c.self.view_is) (pushed_spans _ _ c.args.units room c.self.inside.rows.items c.self.invariant.offsets)
+    rw (← c.self.view_is) (pushed_spans _ _ c.args.units room c.self.inside.rows.items c.self.invariant.numbers)
