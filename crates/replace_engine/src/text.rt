@@ -21,6 +21,7 @@ ghost use Rattle.edit_model.specs.Over.{next_edge, over};
 ghost use Rattle.edit_model.specs.Rows.{spans_in};
 ghost use Rattle.span_table.specs.Table.{spans_of};
 ghost use Rattle.text_cut.specs.Halves.{joined};
+ghost use Rattle.utf16_gap.specs.Gap.{greatest};
 ghost use Rattle.replace_engine.specs.Rows.{appended_by_select, appended_by_set};
 ghost use Rattle.replace_engine.specs.EditVerdicts.{set_of};
 ghost use Rattle.replace_engine.specs.Moved.{is_plain};
@@ -110,6 +111,24 @@ impl SpannedText {
                 added: Vec::new(alloc),
             },
         })
+    }
+
+    /// Makes room for so many units and so many spans more. Where there is room already no memory is asked for. The text,
+    /// its spans and what is told of the last edit stay as they are, and there is room for no fewer, in want of memory
+    /// too.
+    pub fn reserve(&mut self, units: u32, spans: u32) -> Result<(), NoMemory>
+        requires { length self.old.state.units + units ≤ greatest }
+        ensures ok { OnOk result (units ≤ self.new.spare_units) }
+        ensures ok_spans { OnOk result (spans ≤ self.new.spare_spans) }
+        ensures state { self.new.state ≡ self.old.state }
+        ensures gap { self.new.gap ≡ self.old.gap }
+        ensures effect { self.new.effect ≡ self.old.effect }
+        ensures spare_units { self.old.spare_units ≤ self.new.spare_units }
+        ensures spare_spans { self.old.spare_spans ≤ self.new.spare_spans }
+        ensures within { units ≤ self.old.spare_units → spans ≤ self.old.spare_spans → IsOk result }
+    {
+        self.units.reserve(units)?;
+        self.change.reserve(spans, &mut self.touched)
     }
 
     fn index(&self) -> &SpanIndex
@@ -263,7 +282,7 @@ impl SpannedText {
     /// Makes the units from `start` to `end` the incoming ones, where the verdict is done; else nothing changes. Spans
     /// that may not be empty and are emptied go, the ends of the others move, and the incoming spans come behind them,
     /// but for those whose id is attached and those that may not stand where they would. No memory is asked for where
-    /// the incoming units fit the spare ones and no span comes.
+    /// the incoming units fit the spare ones and the incoming spans the spare spans.
     #[tactic(auto, using(crate::proofs::Done::by_verdict), unfolding(edit_model::specs::Changed::stepped, edit_model::specs::Changed::change_of))]
     pub fn replace<L: Ledger>(
         &mut self,
@@ -284,9 +303,11 @@ impl SpannedText {
         ensures err { OnErr result ((self.new.state ≡ self.old.state) × (self.new.effect ≡ self.old.effect)
             × (self.new.gap ≡ self.old.gap)) }
 
-        // Within the spare units, and where no span comes, it succeeds, and a replacement takes at most as many spare
-        // units as it brings units, and at most one spare span for each span that is attached.
-        ensures room { length incoming.now.units ≤ self.old.spare_units → coming_spans incoming.now ≡ [] → IsOk result }
+        // Where the incoming units fit the spare ones, and the incoming spans the spare spans, the composing region and
+        // those that are skipped counted, it succeeds. A replacement takes at most as many spare units as it brings
+        // units, and at most one spare span for each span that is attached.
+        ensures room { length incoming.now.units ≤ self.old.spare_units
+            → length (coming_spans incoming.now) ≤ self.old.spare_spans → IsOk result }
         ensures spare_units { IfOk result (λ verdict. self.old.spare_units
             ≤ self.new.spare_units + on_done verdict (length incoming.now.units) 0) }
         ensures spare_spans { IfOk result (λ verdict. self.old.spare_spans
@@ -337,7 +358,8 @@ impl SpannedText {
     }
 
     /// The units from `start` to `end` become the incoming ones, the spans with them, and the change says so. Without
-    /// memory nothing changes, and none is asked for where the incoming units fit the spare ones and no span comes.
+    /// memory nothing changes, and none is asked for where the incoming units fit the spare ones and the incoming spans
+    /// the spare spans.
     fn exchange<L: Ledger>(
         &mut self,
         start: u32,
@@ -364,7 +386,8 @@ impl SpannedText {
         ensures plain { OnOk result (is_plain start end (length self.old.state.units) self.old.state.spans ≡ true
             → steps.new ≡ steps.old + abs_diff self.old.gap end + length incoming.now.units) }
         ensures idle { OnErr result (steps.new ≡ steps.old) }
-        ensures room { length incoming.now.units ≤ self.old.spare_units → coming_spans incoming.now ≡ [] → IsOk result }
+        ensures room { length incoming.now.units ≤ self.old.spare_units
+            → length (coming_spans incoming.now) ≤ self.old.spare_spans → IsOk result }
         ensures spare_units { OnOk result (self.old.spare_units ≤ self.new.spare_units + length incoming.now.units) }
         ensures spare_spans { OnOk result (self.old.spare_spans
             ≤ self.new.spare_spans + length (came_spans self.old.state start end incoming.now)) }

@@ -29,7 +29,6 @@ impl Change {
     /// Room for so many rows more, and for telling of all rows. Where there is room already it asks for no memory, and
     /// without memory nothing changes but the room.
     pub fn reserve(&mut self, more: u32, touched: &mut Vec<SpanRow>) -> Result<(), NoMemory>
-        requires { more ≤ 1073741825 }
         ensures ok { OnOk result
             (HasRoom (length self.old.moved.rows.kept + more) (vec_capacity touched.new) self.new) }
         ensures spare { OnOk result (more ≤ self.new.moved.rows.spare) }
