@@ -1,0 +1,4 @@
+pub mod Below
+mod Counted
+pub mod Laws
+mod Tables
