@@ -152,6 +152,80 @@ def many_spans():
     it.ends("a span over each unit", "a" * 1_948 + "bb" + "a" * 2_048, 3_998, rows)
 
 
+def nested_spans():
+    """130 spans, each in the one before it: what stands over the middle goes, and their ends gather there."""
+    it = Session()
+    it.replaces(0, 0, "a" * 260, 260, "done")
+    for at in range(130):
+        it.sets(at + 3, at, 260 - at, 34, "done")
+    it.replaces(100, 160, "", 0, "done")
+    it.replaces(100, 100, "bb", 2, "done")
+    rows = [f"{at + 3} {at} {202 - at} 34 tag 0" for at in range(100)] + [f"{at + 3} 102 102 34 tag 0" for at in range(100, 130)]
+    asks(it, 100, 102, rows, 102)
+    asks(it, 102, 103, rows, 103)
+    asks(it, 103, 104, rows[:99], 104)
+    asks(it, 0, 1, rows[:1], 1)
+    asks(it, 99, 202, rows, 102)
+    it.ends("130 nested spans", "a" * 100 + "bb" + "a" * 100, 202, rows)
+
+
+def over(held, start, end):
+    """The rows of those spans that lie over a range."""
+    for ident, (low, high) in held.items():
+        touches, shares = low <= end and start <= high, max(low, start) < min(high, end)
+        if touches and (shares or low == high or start == end):
+            yield f"{ident} {low} {high} 34 tag 0"
+
+
+def turns():
+    """Which span comes, where, and which one goes, turn by turn."""
+    for turn in range(1_200):
+        place = 7 * turn % 99
+        yield turn, 3 + 37 * turn % 101, (place, place + turn % 3), 3 + (11 * turn + 5) % 101
+
+
+def spans_in_turns():
+    """Spans come, are set elsewhere and go in turns, their ids again and again: those that stand are found in order of attachment."""
+    it, held, units = Session(), {}, 101
+    it.replaces(0, 0, "a" * units, units, "done")
+    for turn, comes, (start, end), goes in turns():
+        it.sets(comes, start, end, 34, "done")
+        held[comes] = (start, end)
+        if turn % 4 < 3:
+            verdict = "done" if held.pop(goes, None) else "absent"
+            it.does("remove_span", f',"id":{goes}', f"edit 0 remove {goes} {verdict}")
+        if turn % 40 == 39:
+            it.replaces(start, start, "b", 1, "done", incoming_points(comes, 200 + turn, comes))
+            units += 1
+            held = {ident: tuple(at + (at >= start) for at in span) for ident, span in held.items()}
+            held[200 + turn] = (start, start + 1)
+            asks_over(it, held, start, min(start + 9, units))
+    it.replaces(20, 60, "", 0, "done")
+    held = {ident: tuple(at - min(max(at - 20, 0), 40) for at in span) for ident, span in held.items()}
+    asks_over(it, held, 20, 20)
+    it.ends("spans in turns", letters_of_turns(), units - 40, [f"{ident} {low} {high} 34 tag 0" for ident, (low, high) in held.items()])
+
+
+def incoming_points(*idents):
+    """The member of a replacement that brings spans of one unit, whose ends go on with what comes at them."""
+    return ',"spans":[%s]' % ",".join(f'"{ident} 0 1 34 tag 0"' for ident in idents)
+
+
+def asks_over(it, held, start, end):
+    """The spans over a range, and the next edge behind its start."""
+    edges = [at for span in held.values() for at in span if start < at < end]
+    asks(it, start, end, list(over(held, start, end)), min(edges, default=end))
+
+
+def letters_of_turns():
+    """The text behind all turns."""
+    letters = "a" * 101
+    for turn, _, (start, _), _ in turns():
+        if turn % 40 == 39:
+            letters = letters[:start] + "b" + letters[start:]
+    return letters[:20] + letters[60:]
+
+
 def full_text():
     """A text that is full takes units only for as many."""
     it = Session()
@@ -261,7 +335,7 @@ def odd_bytes():
 
 def run():
     """All of them."""
-    for part in (batches, no_more_spans, spans_that_come, room_for_one, many_spans, full_text):
+    for part in (batches, no_more_spans, spans_that_come, room_for_one, many_spans, nested_spans, spans_in_turns, full_text):
         part()
     for part in (long_lines, long_settings, counted, deep_lines, most_spans, odd_bytes):
         part()
