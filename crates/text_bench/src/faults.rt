@@ -36,7 +36,7 @@ impl Fault {
     pub fn text(&self) -> &'static str {
         match self {
             Fault::Usage => {
-                "fault usage: cursor, anywhere, backspace, ends, clear, pile, query, edge, typed, select, report, compose, commit or delete, then LENGTH from 1 to 1048576, SPANS up to 4096, and COUNT as far as the text has room"
+                "fault usage: cursor, anywhere, backspace, ends, clear, pile, query, edge, near, emptying, gone, moved, new, removal, put, typed, select, report, compose, commit or delete, then LENGTH from 1 to 1048576, SPANS up to 4096, NESTED of them, and COUNT as far as the text has room"
             }
             Fault::NotDone => "fault not-done",
             Fault::Write => "fault write",

@@ -1,6 +1,6 @@
 //! A tool that measures: it makes a text with spans and does one replacement after another, each of them a call of
 //! `SpannedText::replace` alone, or asks one query after another. A line of a trace takes longer to be read than a replacement takes, so `play` can't
-//! tell what one costs. The words are KIND LENGTH SPANS COUNT; the difference to a run whose COUNT is 0 is the time of
+//! tell what one costs. The words are KIND LENGTH SPANS NESTED COUNT; the difference to a run whose COUNT is 0 is the time of
 //! what is done. Of an editor's commands each is one call of `Editor::command`, with all that it plans, does and prints.
 //! What they do to a text is the contract of the call that is measured; here each function is proved safe, and a run says
 //! what its text came to.
@@ -11,6 +11,7 @@ ghost use Rattle.std.specs.Process.{exit_status};
 ghost use Rattle.edit_base.specs.declared.bounds.TheConstants.Limits.{TEXT, SPANS};
 
 mod commanding;
+mod crowding;
 mod faults;
 mod making;
 mod random;
@@ -23,7 +24,7 @@ use editor_core::Summary;
 use faults::Fault;
 use making::text_with_spans;
 use replacing::do_many;
-use requests::{Kind, Request, request_of};
+use requests::{Request, request_of};
 use std::alloc::Global;
 use std::env;
 use std::io::{self, ErrorKind};
@@ -75,7 +76,7 @@ fn unread_words(error: &io::Error) -> Fault {
     }
 }
 
-// How much the text holds that a request leaves, and what its queries found in all.
+// How much the last text holds that a request leaves, and what its queries found in all.
 fn measure(alloc: Global, request: &Request) -> Result<(Summary, u64), Fault>
     requires some { 1 ≤ request.now.length }
     requires length { request.now.length ≤ TEXT }
@@ -101,17 +102,18 @@ fn measure_counted<L: Ledger>(
     if request.kind.is_command() {
         return Ok((do_commands(alloc, request, &mut steps)?, 0));
     }
-    let mut text = text_with_spans(
-        alloc,
-        request.length,
-        request.spans,
-        matches!(request.kind, Kind::Pile),
-        &mut steps,
-    )?;
-    let found = do_many(alloc, &mut text, request.kind, request.count, &mut steps)?;
-    let held = Summary {
-        length: text.len(),
-        spans: text.span_count(),
+    let mut held = Summary {
+        length: 0,
+        spans: 0,
     };
+    let mut found: u64 = 0;
+    for _ in 0..request.kind.texts() {
+        let mut text = text_with_spans(alloc, request, &mut steps)?;
+        found = found.wrapping_add(do_many(alloc, &mut text, request, &mut steps)?);
+        held = Summary {
+            length: text.len(),
+            spans: text.span_count(),
+        };
+    }
     Ok((held, found))
 }

@@ -5,32 +5,42 @@ ghost use Rattle.edit_base.specs.declared.bounds.TheConstants.Limits.{TEXT, SPAN
 ghost use Rattle.edit_model.specs.Brought.{IsBrought};
 
 use crate::faults::Fault;
-use edit_base::{Incoming, Items, NoMemory, Steps, Verdict, What};
+use crate::requests::{Kind, RANGE, Request};
+use edit_base::{Incoming, Items, Limits, NoMemory, Steps, Verdict, What};
 use replace_engine::SpannedText;
 use std::alloc::Global;
 use std::sync::ledger::Ledger;
 
-/// A text of so many units under so many spans, which are spread over it or all begin in the middle. Its gap stands in the middle, with room for about half as many.
+/// A text of as many units and spans as are asked for, of which those that are nested come first. Its gap stands in the
+/// middle, with room for about half as many units.
 pub fn text_with_spans<L: Ledger>(
     alloc: Global,
-    length: u32,
-    spans: u32,
-    is_piled: bool,
+    request: &Request,
     steps: &mut Steps<L>,
 ) -> Result<SpannedText, Fault>
-    requires some { 1 ≤ length }
-    requires limit { length ≤ TEXT }
-    requires spans { spans ≤ SPANS }
+    requires some { 1 ≤ request.now.length }
+    requires limit { request.now.length ≤ TEXT }
 {
     let mut text = SpannedText::new(alloc)?;
-    let all = units(alloc, length)?;
+    let all = units(alloc, request.length)?;
     replace(&mut text, 0, 0, &all, steps)?;
-    let apart = if is_piled { 0 } else { length / spans.max(1) };
-    let first = if is_piled { length / 2 } else { 0 };
-    attach_spans(&mut text, length, spans, (first, apart), steps)?;
+    for at in 0..request.spans {
+        let range = if at < request.nested {
+            nested_range(request, at)
+        } else {
+            short_range(request, at - request.nested)
+        };
+        set(&mut text, at, range, flags_of(request, at), steps)?;
+    }
     // A unit in place of another makes the room that a text needs which has none yet.
     let one = units(alloc, 1)?;
-    replace(&mut text, length / 2, length / 2 + 1, &one, steps)?;
+    replace(
+        &mut text,
+        request.length / 2,
+        request.length / 2 + 1,
+        &one,
+        steps,
+    )?;
     Ok(text)
 }
 
@@ -64,58 +74,67 @@ pub fn replace<L: Ledger>(
     }
 }
 
-// Attaches so many spans of a unit each, from a place on and so many units apart. None of them goes with its unit.
-fn attach_spans<L: Ledger>(
-    text: &mut SpannedText,
-    length: u32,
-    spans: u32,
-    places: (u32, u32),
-    steps: &mut Steps<L>,
-) -> Result<(), Fault>
-    requires some { 1 ≤ length }
-    requires limit { length ≤ TEXT }
-    requires spans { spans ≤ SPANS }
-{
-    for at in 0..spans {
-        let start = at
-            .saturating_mul(places.1)
-            .saturating_add(places.0)
-            .min(length - 1);
-        attach_span(text, at, start, steps)?;
-    }
-    Ok(())
-}
-
-// Attaches a span over the unit at a place.
-fn attach_span<L: Ledger>(
+/// Attaches a span, or sets the one that is attached, or says that this wasn't done.
+pub fn set<L: Ledger>(
     text: &mut SpannedText,
     at: u32,
-    start: u32,
+    range: (u32, u32),
+    flags: u32,
     steps: &mut Steps<L>,
-) -> Result<(), Fault>
-    requires at { at ≤ SPANS }
-    requires start { start < TEXT }
-{
-    let verdict = text.set_span(
-        16 + at,
-        start as i32,
-        start as i32 + 1,
-        flags_of_tag(at),
-        What::Tag(at),
-        0,
-        steps,
-    )?;
-    match verdict {
+) -> Result<(), Fault> {
+    let start = range.0.min(Limits::TEXT) as i32;
+    let end = range.1.min(Limits::TEXT) as i32;
+    match text.set_span(id_of(at), start, end, flags, What::Tag(at), 0, steps)? {
         Verdict::Done => Ok(()),
         _ => Err(Fault::NotDone),
     }
 }
 
-/// The flags word of a span: every third one has the same kind of ends.
+/// The id of a span.
+pub fn id_of(at: u32) -> u32 {
+    at.saturating_add(16)
+}
+
+// The range of a span that lies in those before it, all of them round the middle.
+fn nested_range(request: &Request, at: u32) -> (u32, u32) {
+    let apart = request.length / 2 / request.nested.max(1);
+    let inset = at.saturating_mul(apart);
+    (inset, request.length.saturating_sub(inset))
+}
+
+/// The unit under one of the other spans. They are spread over the text, or stand one behind the other from the middle
+/// on, or all begin there.
+pub fn short_range(request: &Request, number: u32) -> (u32, u32) {
+    let middle = request.length / 2;
+    let start = match request.kind {
+        Kind::Pile => middle,
+        Kind::Gone | Kind::Moved => middle.saturating_add(number % RANGE),
+        _ => number.saturating_mul(apart_of(request)),
+    };
+    let start = start.min(request.length.saturating_sub(1));
+    (start, start.saturating_add(1))
+}
+
+// How many units stand from the start of one span that is spread to that of the next.
+fn apart_of(request: &Request) -> u32 {
+    request.length / request.spans.saturating_sub(request.nested).max(1)
+}
+
+// The flags word of a span, which is given by what is measured, or else of each kind in turn.
+fn flags_of(request: &Request, at: u32) -> u32 {
+    match request.kind {
+        Kind::Emptying | Kind::Gone if request.nested <= at => 33,
+        Kind::Moved if request.nested <= at => 34,
+        _ => flags_of_tag(at),
+    }
+}
+
+/// The flags word of a span: every fourth one has the same kind of ends.
 pub fn flags_of_tag(at: u32) -> u32 {
-    match at % 3 {
+    match at % 4 {
         0 => 17,
         1 => 18,
+        2 => 33,
         _ => 34,
     }
 }

@@ -4,10 +4,11 @@
 ghost use Rattle.std.specs.Prelude.{◌≤◌};
 ghost use Rattle.edit_model.specs.Brought.{IsBrought};
 
+use crate::crowding::{attach_many, empty_spans, insert_near, put_many, remove_many, take_range};
 use crate::faults::Fault;
 use crate::making::{replace, units};
 use crate::random::Random;
-use crate::requests::Kind;
+use crate::requests::{Kind, Request};
 use edit_base::{Incoming, Limits, Pick, Steps};
 use replace_engine::SpannedText;
 use std::alloc::Global;
@@ -17,11 +18,11 @@ use std::sync::ledger::Ledger;
 pub fn do_many<L: Ledger>(
     alloc: Global,
     text: &mut SpannedText,
-    kind: Kind,
-    count: u32,
+    request: &Request,
     steps: &mut Steps<L>,
 ) -> Result<u64, Fault> {
-    match kind {
+    let count = request.count;
+    match request.kind {
         Kind::Query => ask_points(alloc, text, count, steps),
         Kind::Edge => Ok(ask_edges(text, count)),
         Kind::Clear => {
@@ -29,24 +30,39 @@ pub fn do_many<L: Ledger>(
             clear_and_fill(text, count, &all, &units(alloc, 0)?, steps)?;
             Ok(0)
         }
+        Kind::New => {
+            attach_many(text, request, steps)?;
+            Ok(0)
+        }
+        Kind::Removal => {
+            remove_many(text, request)?;
+            Ok(0)
+        }
+        Kind::Put => {
+            put_many(text, request, steps)?;
+            Ok(0)
+        }
         _ => {
-            replace_many(alloc, text, kind, count, steps)?;
+            replace_many(alloc, text, request, steps)?;
             Ok(0)
         }
     }
 }
 
-// Does so many replacements of a unit.
+// Does so many replacements.
 fn replace_many<L: Ledger>(
     alloc: Global,
     text: &mut SpannedText,
-    kind: Kind,
-    count: u32,
+    request: &Request,
     steps: &mut Steps<L>,
 ) -> Result<(), Fault> {
+    let count = request.count;
     let one = units(alloc, 1)?;
     let none = units(alloc, 0)?;
-    match kind {
+    match request.kind {
+        Kind::Near => insert_near(text, count, &one, steps),
+        Kind::Emptying => empty_spans(text, request, &none, steps),
+        Kind::Gone | Kind::Moved => take_range(text, count, &none, steps),
         Kind::Anywhere => insert_anywhere(text, count, &one, steps),
         Kind::Backspace => take_back(text, count, &none, steps),
         Kind::Ends => jump(text, count, &one, steps),
