@@ -9,3 +9,4 @@ mod room;
 
 pub use iter::LiveSlots;
 pub use ranks::SlotRanks;
+pub use room::push_within;

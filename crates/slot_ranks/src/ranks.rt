@@ -86,8 +86,20 @@ impl SlotRanks {
         at < self.live.len() && self.live[at]
     }
 
-    /// How many live slots stand before a slot.
+    /// How many live slots stand before a slot; all of them before one past the last.
     pub fn rank(&self, slot: u32) -> u32
+        ensures rank { result ≡ rank self.now.live slot }
+        ensures within { result ≤ slot }
+    {
+        if slot < self.len() {
+            self.rank_within(slot)
+        } else {
+            self.count
+        }
+    }
+
+    /// How many live slots stand before a slot of the table.
+    fn rank_within(&self, slot: u32) -> u32
         requires { slot < length self.now.live }
         ensures rank { result ≡ rank self.now.live slot }
         ensures within { result ≤ slot }

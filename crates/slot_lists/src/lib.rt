@@ -1,0 +1,8 @@
+//! Rising lists of slots.
+#![tactic(auto)]
+
+mod edits;
+mod list;
+mod room;
+
+pub use list::SlotList;

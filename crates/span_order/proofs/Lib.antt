@@ -1,0 +1,15 @@
+pub mod Anew
+pub mod CarriedTops
+pub mod Crests
+pub mod Entries
+pub mod HitLists
+pub mod Numbers
+pub mod Packing
+pub mod Parted
+pub mod Parts
+pub mod PlacedSlots
+pub mod Runs
+pub mod Splices
+pub mod TopLists
+pub mod ToppedLaws
+pub mod Turned
