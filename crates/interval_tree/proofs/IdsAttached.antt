@@ -9,7 +9,7 @@ module _ {X : Type 0} (test : X → Bool) where
   first_step false place count true is = grind (arith, nat_tests)
   first_step false place count false is = grind (arith, nat_tests)
 
-  first_within : (xs : List X) → ltb (position_or_len test xs) (length xs) ≡ list_any test xs
+  pub first_within : (xs : List X) → ltb (position_or_len test xs) (length xs) ≡ list_any test xs
   first_within [] = refl
   first_within (x ∷ xs) = first_step (test x) (position_or_len test xs) (length xs) (list_any test xs) (first_within xs)
 

@@ -6,18 +6,16 @@ use Rattle.std.proofs.lemmas.List.{length-map}
 use Rattle.span_table.specs.declared.kept.KeptRow.{KeptRow}
 use Rattle.span_table.specs.Table.{seen}
 use Rattle.interval_tree.specs.Answers.{IsWithin, near_count}
-use Rattle.interval_tree.specs.Kinds.{seats_of}
-use Rattle.interval_tree.proofs.QuerySeats.{seats_few}
 
 times : (m n k : ℕ) → k ≤ n → k ≤ (m + 1) * n
 times m n k few = let more : 1 * n ≤ (m + 1) * n = mul-le-mul_right n (omega arith) in omega (arith, more)
 
-pub seats_within : (start end gap room : ℕ) (kept : List KeptRow) (seats old new : ℕ) → seats ≡ length (seats_of kept)
+pub seats_within : (start end gap room : ℕ) (kept : List KeptRow) (seats old new : ℕ) → seats ≤ length kept
     → ((h : ℕ) → length kept < 2 ^ h → seats ≤ h + 1) → new ≡ old + seats → IsWithin start end (map (seen gap room) kept) (new - old)
 seats_within start end gap room kept seats old new all few ticks =
     let long = length-map kept (seen gap room) in
     record {
-      each = omega (arith, seats_few kept, long, ticks, all);
+      each = omega (arith, all, long, ticks);
       high = λ h below.
           let fits = few h (omega (arith, long, below, pow_more 2 h)) in
           times (near_count start end (map (seen gap room) kept)) (h + 1) (new - old) (omega (arith, fits, ticks));

@@ -8,7 +8,7 @@ use Rattle.edit_model.specs.State.{Span}
 use Rattle.span_table.specs.declared.kept.KeptRow.{KeptRow}
 use Rattle.span_table.specs.Table.{kept_span, seen, without_at}
 use Rattle.span_table.proofs.Lists.{kept_seen}
-use Rattle.interval_tree.specs.Kinds.{composing_count, is_composing_row}
+use Rattle.row_kinds.specs.Kinds.{composing_count, is_composing_row}
 
 -- the row at a place becomes that of a span
 pub seen_changed : (gap room : ℕ) (kept : List KeptRow) (i : ℕ) (span : Span)

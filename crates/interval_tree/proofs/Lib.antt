@@ -1,30 +1,23 @@
-mod IdsFound
-pub mod Placed
-mod IndexAhead
+mod Apart
+mod IdsAttached
+mod IdsKept
 mod IndexCarried
-pub mod IndexPlaces
-mod IndexRemoved
+mod IndexFilled
+mod IndexFirst
+mod IndexLaws
+mod IndexRenamed
 mod IndexSeats
 mod IndexSeen
-mod IndexWhole
-pub mod OrderTops
-pub mod QueryEdges
+mod NamedPlaces
+mod NumberMoves
+mod NumberOrder
+mod OrderLaws
+mod QueryEdges
 pub mod QueryLists
-pub mod QueryOrder
-pub mod QuerySeats
-pub mod QueryTree
+mod QueryOrder
+mod QueryPlaces
+pub mod QueryRows
+mod QuerySeats
 pub mod Ranges
-mod TallyLess
-mod TallyMore
-pub mod WalkEmptied
-pub mod WalkParts
-pub mod WalkReads
-pub mod WindowMoves
-pub mod WindowTops
-pub mod WindowOrder
-pub mod WindowPlaces
-pub mod WindowRemoved
-pub mod IdsAttached
-pub mod WindowFound
-pub mod OrderAdded
-pub mod NumberOrder
+mod Renamed
+mod Spares

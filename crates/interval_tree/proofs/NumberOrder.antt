@@ -1,8 +1,8 @@
 -- The order of numbers is that of their places, and at one place that of their sides, wherever the gap stands.
-use Rattle.std.proofs.Common.{◌≡◌, ℕ, ◌<◌, ◌≤◌, ◌/◌, Bool, true, false, subst, arith}
+use Rattle.std.proofs.Common.{◌≡◌, ℕ, ◌<◌, ◌≤◌, Bool, true, false, subst, arith}
 use Rattle.std.proofs.lemmas.Bool.Decides.{nat_tests}
 use Rattle.span_table.specs.Numbers.{IsNumber, bare_of, number_at, opened, place_of}
-use Rattle.interval_tree.specs.Walk.{IsBound}
+use Rattle.interval_tree.specs.Walk.{IsBound, IsStop}
 
 -- ---- numbers of places
 
@@ -18,12 +18,10 @@ climbs_past : (gap room : ℕ) (points : Bool) (x y : ℕ) → number_at gap roo
 climbs_past gap room true x y order = grind (arith, nat_tests)
 climbs_past gap room false x y order = grind (arith, nat_tests)
 
--- the same of halves of numbers
-climbs_half : (gap room : ℕ) (first second : Bool) (x y : ℕ) → number_at gap room first x / 2 ≤ number_at gap room second y / 2 → x ≤ y
-climbs_half gap room true true x y order = grind (arith, nat_tests)
-climbs_half gap room true false x y order = grind (arith, nat_tests)
-climbs_half gap room false true x y order = grind (arith, nat_tests)
-climbs_half gap room false false x y order = grind (arith, nat_tests)
+-- one that is greater than that of the second side stands at a higher place
+climbs_over : (gap room : ℕ) (points : Bool) (x y : ℕ) → number_at gap room true y < number_at gap room points x → y < x
+climbs_over gap room true x y order = grind (arith, nat_tests)
+climbs_over gap room false x y order = grind (arith, nat_tests)
 
 -- ---- numbers
 
@@ -32,11 +30,6 @@ module _ (gap room : ℕ) (first second : Bool) (m n : ℕ) (one : IsNumber gap 
   places_rise order =
       climbs gap room first second (place_of gap room m) (place_of gap room n)
       (subst (λ k. k ≤ number_at gap room second (place_of gap room n)) one.is (subst (λ k. m ≤ k) other.is order))
-
-  pub places_rise_half : m / 2 ≤ n / 2 → place_of gap room m ≤ place_of gap room n
-  places_rise_half order =
-      climbs_half gap room first second (place_of gap room m) (place_of gap room n)
-      (subst (λ k. k / 2 ≤ number_at gap room second (place_of gap room n) / 2) one.is (subst (λ k. m / 2 ≤ k / 2) other.is order))
 
 -- the number of a place bounds those of lower places
 pub place_bounds : (gap room start number : ℕ) → number ≡ number_at gap room false start → IsBound gap room start number
@@ -47,6 +40,17 @@ place_bounds gap room start number is = record {
   above = λ points other valid more.
       climbs gap room false points start (place_of gap room other)
       (subst (λ k. number_at gap room false start ≤ k) valid.is (subst (λ k. k ≤ other) is more));
+}
+
+-- and that on the other side those of higher places
+pub place_stops : (gap room end number : ℕ) → number ≡ number_at gap room true end → IsStop gap room end number
+place_stops gap room end number is = record {
+  below = λ points other valid less.
+      climbs gap room points true (place_of gap room other) end
+      (subst (λ k. k ≤ number_at gap room true end) valid.is (subst (λ k. other ≤ k) is less));
+  above = λ points other valid more.
+      climbs_over gap room points (place_of gap room other) end
+      (subst (λ k. number_at gap room true end < k) valid.is (subst (λ k. k < other) is more));
 }
 
 -- ---- another gap

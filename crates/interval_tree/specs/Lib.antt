@@ -1,8 +1,6 @@
-pub mod Tree
-pub mod Window
-pub mod Ids
-pub mod Kinds
 pub mod Answers
-pub mod Whole
-pub mod Walk
+pub mod Ids
 pub mod Order
+pub mod Orders
+pub mod Walk
+pub mod Whole

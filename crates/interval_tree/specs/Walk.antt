@@ -1,34 +1,27 @@
--- The walk over the tree: what it finds, and how many rows it reads.
-use Rattle.std.specs.Prelude.{ℕ, ◌≡◌, ◌+◌, ◌*◌, ◌^◌, ◌<◌, ◌≤◌, ◌&&◌, Bool, List, map, filter, length}
-use Rattle.std.specs.List.{All}
-use Rattle.std.specs.List.Sorted.{IsNonDecreasingBy}
+-- What a query asks of places, of spans and of their numbers.
+use Rattle.std.specs.Prelude.{ℕ, ◌<◌, ◌≤◌, ◌&&◌, Bool, List, map, filter, length, nat_lt, slice_index}
+use Rattle.std.specs.List.{All, Contains}
 use Rattle.edit_base.specs.declared.rows.SpanRow.{SpanRow}
 use Rattle.edit_model.specs.State.{Span}
-use Rattle.edit_model.specs.Over.{is_picked, lies_over, touches}
-use Rattle.edit_model.specs.Replaced.{is_emptied}
+use Rattle.edit_model.specs.Over.{is_picked, least, lies_over, touches}
 use Rattle.interval_tree.specs.declared.walk.Asked.{Asked}
 use Rattle.interval_tree.specs.declared.walk.Asked.TheVariants.{Over, Touching}
 use Rattle.span_table.specs.Numbers.{IsNumber, place_of}
-use Rattle.span_table.specs.Table.{Rows, span_at, spans_of}
-use Rattle.interval_tree.specs.Tree.{Topped, kept_end}
+use Rattle.span_table.specs.Table.{span_at}
 
 -- the numbers below this one are those of the places before the start
 pub record IsBound (gap room start bound : ℕ) : Type 0 where
   pub below : (points : Bool) (number : ℕ) → IsNumber gap room points number → number < bound → place_of gap room number < start
   pub above : (points : Bool) (number : ℕ) → IsNumber gap room points number → bound ≤ number → start ≤ place_of gap room number
 
--- the same of the end of the row at a place
-pub record IsBoundAt (rows : Rows) (start bound i : ℕ) : Type 0 where
-  pub below : kept_end rows.kept i < bound → (span_at (spans_of rows) i).end < start
-  pub above : bound ≤ kept_end rows.kept i → start ≤ (span_at (spans_of rows) i).end
+-- the numbers above this one are those of the places behind the end
+pub record IsStop (gap room end stop : ℕ) : Type 0 where
+  pub below : (points : Bool) (number : ℕ) → IsNumber gap room points number → number ≤ stop → place_of gap room number ≤ end
+  pub above : (points : Bool) (number : ℕ) → IsNumber gap room points number → stop < number → end < place_of gap room number
 
--- the places of rows, in order of their starts, with the greatest ends over them
-pub record IsBranch (rows : Rows) (start bound : ℕ) (places tops : List ℕ) : Type 0 where
-  pub within : All (λ i. i < length rows.kept) places
-  pub rising : IsNonDecreasingBy (λ i. (span_at (spans_of rows) i).start) places
-  pub long : length tops ≡ length places
-  pub topped : Topped (map (kept_end rows.kept) places) tops
-  pub bounded : All (IsBoundAt rows start bound) places
+-- the place of a slot among rising ones: how many of them are less
+abbrev pub place_in : List ℕ → ℕ → ℕ
+place_in slots slot = length (filter (λ other. nat_lt other slot) slots)
 
 -- the row of the span at a place, which is its order
 abbrev pub row_at : List Span → ℕ → SpanRow
@@ -50,20 +43,20 @@ answers Touching start end span = touches start end span
 unfoldable pub found : Asked → ℕ → ℕ → List Span → List ℕ → List SpanRow
 found asked start end spans places = map (row_at spans) (filter (λ i. answers asked start end (span_at spans i)) places)
 
--- the places among these of the spans that are emptied when the range becomes so many units
-unfoldable pub emptied : ℕ → ℕ → ℕ → List Span → List ℕ → List ℕ
-emptied start end grown spans places = filter (λ i. is_emptied start end grown (span_at spans i)) places
+-- ---- edges
 
--- how many of these places have a span that touches the range
-unfoldable pub near : ℕ → ℕ → List Span → List ℕ → ℕ
-near start end spans places = length (filter (λ i. touches start end (span_at spans i)) places)
+abbrev pub starts_of : List Span → List ℕ
+starts_of spans = map (λ span. span.start) spans
 
--- Reads of rows among these places: no more than one each, nor, where their number is below a power of two, more than
--- that power for each span that touches the range and one more; that one falls away where all of them start before the
--- range's end.
-pub record IsWalk (start end : ℕ) (spans : List Span) (places : List ℕ) (old new : ℕ) : Type 0 where
-  pub more : old ≤ new
-  pub each : new ≤ old + length places
-  pub high : (h : ℕ) → length places < 2 ^ h → new ≤ old + (near start end spans places + 1) * h
-  pub low : (h : ℕ) → length places < 2 ^ h → All (λ i. (span_at spans i).start ≤ end) places
-      → new ≤ old + near start end spans places * h
+abbrev pub ends_of : List Span → List ℕ
+ends_of spans = map (λ span. span.end) spans
+
+-- the least of these places behind one and below the limit, else the limit
+abbrev pub nearest : ℕ → ℕ → List ℕ → ℕ
+nearest after limit places = least limit (filter (λ edge. nat_lt after edge && nat_lt edge limit) places)
+
+-- a slot with the least number of those that are greater than this one
+pub record IsFirst (keys order : List ℕ) (number slot : ℕ) : Type 0 where
+  pub there : Contains order slot
+  pub behind : number < slice_index keys slot
+  pub least : All (λ other. number < slice_index keys other → slice_index keys slot ≤ slice_index keys other) order

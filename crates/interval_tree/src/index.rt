@@ -2,7 +2,7 @@
 
 ghost use Rattle.std.specs.Prelude.{◌≡◌, ◌≤◌, ◌<◌, ◌↔◌, ◌+◌, ◌-◌, ◌*◌, ◌^◌, ◌++◌, [], ◌∷◌};
 ghost use Rattle.std.specs.Prelude.{ℕ, true, false, is_some, length, map, vec_len, vec_capacity, IfOk, OnOk, OnErr, IsOk};
-ghost use Rattle.std.specs.List.{All, IsDistinct, range_with_len, slice_set};
+ghost use Rattle.std.specs.List.{All, IsDistinct, concat, slice_set};
 ghost use Rattle.std.specs.List.Sorted.{IsPermutation};
 ghost use Rattle.edit_model.specs.Attached.{is_attached};
 ghost use Rattle.edit_model.specs.Over.{next_edge, over};
@@ -12,58 +12,50 @@ ghost use Rattle.span_table.specs.Table.{HasRoomFor, IsClearOf, closed_span, kep
 ghost use Rattle.span_table.specs.Table.{row_place, pushed_span, span_at, spans_of, without_at};
 ghost use Rattle.interval_tree.specs.Answers.{IsRising, IsWithin, first_emptied, orders_of, touching};
 ghost use Rattle.interval_tree.specs.Ids.{HaveDistinctIds, ids_given, same_number};
-ghost use Rattle.interval_tree.specs.Kinds.{composing_count, paragraph_count};
-ghost use Rattle.interval_tree.specs.Tree.{IsIndex, IsPlaced};
-ghost use Rattle.interval_tree.specs.Whole.{IsWhole};
+ghost use Rattle.interval_tree.specs.Orders.{IsOrder};
+ghost use Rattle.span_order.specs.Topped.{IsTopped};
+ghost use Rattle.row_kinds.specs.Kinds.{composing_count, paragraph_count};
 
-use crate::ids::{find, place_last_id, sort_by_id};
-use crate::order::{place_last, put_row, raise, remove_row, settle, take_out_within};
-use crate::query::{Tree, first_emptied, next_edge, over, seats_over, touching};
-use crate::tally::{Tally, counts_alike, tally_of};
+use crate::orders::Orders;
+use crate::query::{Tree, next_edge, over, seats_over, touching};
 use edit_base::{NoMemory, Pick, SpanRow, Steps};
+use id_slots::IdSlots;
+use row_kinds::Tally;
 use span_flags::is_emptied;
-use span_table::{SpanRows, push_within};
+use span_table::SpanRows;
 use std::alloc::Global;
 use std::marker::Model;
 use std::sync::ledger::Ledger;
 
-/// Spans in order of attachment, round a gap of a text, with a tree over their greatest ends and an order by id. Ids
-/// differ. A row that is read has its place in the list as its order.
-///
-/// The row that came last may stand apart from both orders, until another one comes: so one that comes and goes, like the
-/// composing region, leaves them as they are.
+/// Spans in order of attachment, round a gap of a text, with their ids and with their slots in order by start and by end.
+/// Ids differ. A row that is read has its place in the list as its order.
 #[derive(Drop)]
 pub struct SpanIndex {
     rows: SpanRows,
-    /// The places of the rows in order by start number, without the last one where it stands apart.
-    by_start: Vec<u32>,
-    /// At the middle of each slice of that order, the greatest end number of the slice.
-    tops: Vec<u64>,
-    /// The places of the rows in order by id, without the last one where it stands apart.
-    by_id: Vec<u32>,
+    ids: IdSlots,
+    orders: Orders,
     tally: Tally,
 }
 
 impl Model for SpanIndex {
-    ghost use Rattle.std.specs.Prelude.{length, vec_capacity};
     ghost use Rattle.span_table.specs.Table.{Rows};
-    ghost use Rattle.interval_tree.specs.Whole.{HasPlaces, IsWhole, spare_of};
+    ghost use Rattle.interval_tree.specs.Whole.{IsWhole, spare_of};
 
     ghost Value = { Rows };
 
     ghost view = { λ it. record {
       kept = it.rows.kept;
+      slots = it.rows.slots;
+      starts = it.rows.starts;
+      ends = it.rows.ends;
+      left = it.rows.left;
       gap = it.rows.gap;
       room = it.rows.room;
-      spare = spare_of (length it.rows.kept) it.rows.spare
-          (vec_capacity it.by_start) (vec_capacity it.tops) (vec_capacity it.by_id);
+      spare = spare_of it.rows it.ids it.orders.by_start it.orders.by_end it.tally.composing it.tally.seats;
     } };
 
-    ghost invariant = { λ it. record {
-      whole : IsWhole it.rows.kept it.by_start.items it.tops.items it.by_id.items
-          it.tally.paragraphs it.tally.composing it.tally.seats.items it.tally.whole it.tally.forward;
-      places : HasPlaces (length it.rows.kept) (vec_capacity it.by_start) (vec_capacity it.tops) (vec_capacity it.by_id);
-    } };
+    ghost invariant = { λ it. IsWhole it.rows it.ids it.orders.by_start it.orders.by_end
+        it.tally.paragraphs it.tally.composing it.tally.seats };
 }
 
 impl SpanIndex {
@@ -74,14 +66,11 @@ impl SpanIndex {
         ensures gap { IfOk result (λ index. index.gap ≡ 0) }
         ensures room { IfOk result (λ index. index.room ≡ 0) }
     {
-        let rows = SpanRows::new(alloc)?;
-        let tally = tally_of(&rows);
         Ok(SpanIndex {
-            rows,
-            by_start: Vec::new(alloc),
-            tops: Vec::new(alloc),
-            by_id: Vec::new(alloc),
-            tally,
+            rows: SpanRows::new(alloc)?,
+            ids: IdSlots::new(alloc),
+            orders: Orders::new(alloc),
+            tally: Tally::new(alloc),
         })
     }
 
@@ -96,12 +85,24 @@ impl SpanIndex {
         &self.rows
     }
 
+    /// How many rows there are.
+    fn count(&self) -> u32
+        ensures count { result ≡ length self.now.kept }
+    {
+        self.rows.count()
+    }
+
     /// The place of the row with this id, or none where the id isn't there.
     pub fn find(&self, id: u32) -> Option<u32>
         ensures place { result ≡ row_place id (spans_of self.now) }
         ensures attached { is_some result ≡ is_attached id (spans_of self.now) }
     {
-        find(&self.rows, &self.by_id, id)
+        // What is known of the rows comes with their number.
+        let _count = self.rows.count();
+        match self.ids.get(id) {
+            Some(slot) => Some(self.rows.rank_of(slot)),
+            None => None,
+        }
     }
 
     /// How many rows have ends that stay at boundaries of paragraphs.
@@ -115,7 +116,9 @@ impl SpanIndex {
     pub fn composing(&self) -> u32
         ensures { result ≡ composing_count (spans_of self.now) }
     {
-        self.tally.composing
+        // What is known of the rows comes with their number.
+        let _count = self.rows.count();
+        self.tally.composing.len() as u32
     }
 
     // ---- queries
@@ -138,11 +141,9 @@ impl SpanIndex {
         ensures room { length self.now.kept ≤ vec_capacity out.old → IsOk result }
         ensures capacity { vec_capacity out.old ≤ vec_capacity out.new }
     {
-        if matches!(pick, Pick::Watches)
-            && self.tally.whole
-            && has_few(self.tally.seats.len(), self.rows.count() as usize)
-        {
-            seats_over(&self.rows, &self.tally.seats, qs, qe, out, steps)
+        let seats = self.tally.seats.as_slice();
+        if matches!(pick, Pick::Watches) && has_few(seats.len(), self.rows.count() as usize) {
+            seats_over(&self.rows, seats, qs, qe, out, steps)
         } else {
             over(self.tree(), qs, qe, pick, out, steps)
         }
@@ -171,32 +172,32 @@ impl SpanIndex {
     pub fn next_edge(&self, start: u32, limit: u32) -> u32
         ensures { result ≡ next_edge start limit (spans_of self.now) }
     {
-        next_edge(&self.rows, start, limit)
+        next_edge(
+            &self.rows,
+            self.orders.by_start.order(),
+            &self.orders.by_end,
+            start,
+            limit,
+        )
     }
 
     /// The place of the first row, in order of attachment, that is emptied when the units from `start` to `end` become
-    /// `grown` units, or none where no row is.
+    /// `grown` units, or none where no row is. Each row is read.
     pub fn first_emptied(&self, start: u32, end: u32, grown: u32) -> Option<u32>
         ensures { result ≡ first_emptied start end grown (spans_of self.now) }
     {
-        // The call tells that the ends of each row are numbers.
-        let _count = self.rows.count();
-        if self.tally.forward {
-            first_emptied(self.tree(), start, end, grown)
-        } else {
-            first_by_one(&self.rows, start, end, grown)
-        }
+        first_by_one(&self.rows, start, end, grown)
     }
 
     fn tree(&self) -> Tree<'_>
-        ensures index { IsIndex result.rows.now.kept result.by_start.now result.tops.now }
+        ensures order { IsOrder result.rows.now.starts result.rows.now.slots (concat result.by_start.now.blocks) }
+        ensures topped { IsTopped result.rows.now.ends result.by_start.now.blocks result.by_start.now.tops }
         ensures kept { result.rows.now.kept ≡ self.now.kept }
         ensures spans { spans_of result.rows.now ≡ spans_of self.now }
     {
         Tree {
             rows: &self.rows,
-            by_start: &self.by_start,
-            tops: &self.tops,
+            by_start: &self.orders.by_start,
         }
     }
 
@@ -212,17 +213,14 @@ impl SpanIndex {
         ensures spare { self.old.spare ≤ self.new.spare }
         ensures within { spans ≤ self.old.spare → IsOk result }
     {
-        let count = self.rows.count();
         self.rows.reserve(spans)?;
-        let starts = missing(self.by_start.len(), count, spans);
-        self.by_start.reserve(starts)?;
-        self.tops.reserve(starts)?;
-        let ids = missing(self.by_id.len(), count, spans);
-        self.by_id.reserve(ids)?;
+        self.ids.reserve(spans)?;
+        self.orders.reserve(spans)?;
+        self.tally.reserve(self.rows.count() + spans)?;
         Ok(())
     }
 
-    /// Adds a row behind the others, apart from both orders. Without memory nothing changes, and where a spare row is left
+    /// Adds a row behind the others. Without memory nothing changes, and where a spare row is left
     /// none is asked for.
     pub fn add(&mut self, row: &SpanRow) -> Result<(), NoMemory>
         requires bound { length self.old.kept < 4294967295 }
@@ -239,12 +237,51 @@ impl SpanIndex {
         ensures within { 0 < self.old.spare → IsOk result }
     {
         self.reserve(1)?;
-        place_last(&self.rows, &mut self.by_start, &mut self.tops);
-        place_last_id(&self.rows, &mut self.by_id);
-        let place = self.rows.count();
-        self.rows.add(row)?;
-        self.tally.count(place, &self.rows.kept(place));
+        self.squeeze();
+        self.append(row);
         Ok(())
+    }
+
+    /// Adds a row behind the others, which there is room and a slot for.
+    fn append(&mut self, row: &SpanRow)
+        requires bound { length self.old.kept < 4294967295 }
+        requires id { is_attached row.now.id (spans_of self.old) ≡ false }
+        requires spare { 0 < self.old.spare }
+        requires left { 0 < self.old.left }
+        ensures kept { self.new.kept ≡ self.old.kept ++ kept_span self.old.gap self.old.room (span_of row.now) ∷ [] }
+        ensures spans { spans_of self.new ≡ spans_of self.old ++ span_of row.now ∷ [] }
+        ensures gap { self.new.gap ≡ self.old.gap }
+        ensures room { self.new.room ≡ self.old.room }
+        ensures spare { self.old.spare ≤ self.new.spare + 1 }
+    {
+        let place = self.rows.count();
+        // There is room, so this succeeds.
+        let _ = self.rows.add(row);
+        let slot = self.rows.slot_at(place);
+        self.ids.insert(row.id, slot);
+        self.orders.enter(&self.rows, slot);
+        self.tally.enter(slot, &self.rows.kept(place));
+    }
+
+    /// Where no slot is left, slots without a row are squeezed out.
+    fn squeeze(&mut self)
+        ensures left { 0 < self.old.spare → 0 < self.new.left }
+        ensures kept { self.new.kept ≡ self.old.kept }
+        ensures gap { self.new.gap ≡ self.old.gap }
+        ensures room { self.new.room ≡ self.old.room }
+        ensures spare { self.old.spare ≤ self.new.spare }
+    {
+        if self.rows.left() > 0 {
+            return;
+        }
+        // What is known of the rows comes with their number.
+        let _count = self.rows.count();
+        let ranks = self.rows.ranks();
+        self.ids.renumber(ranks);
+        self.orders.renumber(ranks);
+        self.tally.renumber(ranks);
+        self.rows.squeeze();
+        self.orders.raise(&self.rows);
     }
 
     /// The row at a place becomes this one, of the same id and order.
@@ -259,12 +296,14 @@ impl SpanIndex {
         ensures room { self.new.room ≡ self.old.room }
         ensures spare { self.old.spare ≤ self.new.spare }
     {
+        // What is known of the rows comes with their number.
+        let _count = self.rows.count();
+        let slot = self.rows.slot_at(i);
         let old = self.rows.kept(i);
-        put_row(&mut self.rows, &mut self.by_start, &mut self.tops, i, row);
-        if self.tally.forward && counts_alike(&old, &self.rows.kept(i)) {
-            return;
-        }
-        self.tally = tally_of(&self.rows);
+        self.orders.leave(&self.rows, slot);
+        self.rows.put(i, row);
+        self.orders.enter(&self.rows, slot);
+        self.tally.change(slot, &old, &self.rows.kept(i));
     }
 
     /// Removes the row at a place; those behind it take the places before theirs.
@@ -276,10 +315,16 @@ impl SpanIndex {
         ensures room { self.new.room ≡ self.old.room }
         ensures spare { self.old.spare ≤ self.new.spare }
     {
+        // What is known of the rows comes with their number.
+        let _count = self.rows.count();
+        let slot = self.rows.slot_at(i);
         let row = self.rows.kept(i);
-        remove_row(&mut self.rows, &mut self.by_start, &mut self.tops, i);
-        take_out_within(&mut self.by_id, i);
-        self.tally.remove(&self.rows, i, &row);
+        self.orders.leave(&self.rows, slot);
+        self.ids.remove(row.id);
+        self.tally.leave(slot, &row);
+        self.rows.remove(i);
+        // What is known of those that are left comes with their number.
+        let _left = self.rows.count();
     }
 
     /// The list becomes these rows. Without memory nothing changes, and none is asked for where no more rows are given
@@ -303,23 +348,47 @@ impl SpanIndex {
         ensures more { steps.old ≤ steps.new }
         ensures ticks { steps.new ≤ steps.old + 2 * (length self.old.kept + length rows.now) }
     {
-        let count = rows.len() as u32;
-        let missing = count.saturating_sub(self.rows.count());
+        let missing = (rows.len() as u32).saturating_sub(self.count());
         self.reserve(missing)?;
-        refill(&mut self.rows, rows, steps);
-        number(&mut self.by_start, count);
-        lengthen(&mut self.tops, count);
-        number(&mut self.by_id, count);
-        self.tally = arranged(
-            &self.rows,
-            &mut self.by_start,
-            &mut self.tops,
-            &mut self.by_id,
-        );
+        self.clear();
+        self.refill(rows, steps);
         Ok(())
     }
 
-    /// The gap goes to another place and gets another length; every row is seen as before. The order by start stays.
+    /// No rows are left, and their room is.
+    fn clear(&mut self)
+        ensures kept { self.new.kept ≡ [] }
+        ensures gap { self.new.gap ≡ self.old.gap }
+        ensures room { self.new.room ≡ self.old.room }
+        ensures spare { length self.old.kept + self.old.spare ≤ self.new.spare }
+    {
+        self.rows.clear();
+        self.ids.clear();
+        self.orders.clear();
+        self.tally.clear();
+    }
+
+    /// Adds rows, which there is room for, where there are none, one step for each.
+    fn refill<L: Ledger>(&mut self, rows: &[SpanRow], steps: &mut Steps<L>)
+        requires none { self.old.kept ≡ [] }
+        requires fits { length rows.now ≤ self.old.spare }
+        requires bound { length rows.now ≤ 4294967295 }
+        requires distinct { IsDistinct same_number (ids_given rows.now) }
+        requires rising { IsRising (orders_of rows.now) }
+        ensures kept { self.new.kept ≡ map (kept_span self.old.gap self.old.room) (spans_in rows.now) }
+        ensures gap { self.new.gap ≡ self.old.gap }
+        ensures room { self.new.room ≡ self.old.room }
+        ensures spare { self.old.spare ≤ length self.new.kept + self.new.spare }
+        ensures ticks { steps.new ≡ steps.old + length rows.now }
+    {
+        for row in rows {
+            steps.tick();
+            // There is room, so this succeeds.
+            let _ = self.add(row);
+        }
+    }
+
+    /// The gap goes to another place and gets another length; every row is seen as before. Both orders stay.
     pub fn shift_for_gap(&mut self, old_gap: u32, new_gap: u32, old_room: u32, new_room: u32)
         requires gap { old_gap ≡ self.old.gap }
         requires room { old_room ≡ self.old.room }
@@ -329,12 +398,12 @@ impl SpanIndex {
         ensures room { self.new.room ≡ new_room }
         ensures spare { self.old.spare ≤ self.new.spare }
     {
-        // The call tells that the ends of each row are numbers.
+        // What is known of the rows comes with their number.
         let _count = self.rows.count();
         self.rows
             .shift_for_gap(old_gap, new_gap, old_room, new_room);
-        raise(&self.rows, &self.by_start, &mut self.tops);
-        self.tally = tally_of(&self.rows);
+        let _anew = self.rows.count();
+        self.orders.raise(&self.rows);
     }
 
     /// So many units come at the gap: it is that much shorter and stands behind them. No row changes.
@@ -367,7 +436,7 @@ impl SpanIndex {
     }
 }
 
-/// The place of the first row that is emptied, where some row may end before it starts: each row is read.
+/// The place of the first row that is emptied: each row is read.
 fn first_by_one(rows: &SpanRows, start: u32, end: u32, grown: u32) -> Option<u32>
     ensures { result ≡ first_emptied start end grown (spans_of rows.now) }
 {
@@ -377,70 +446,6 @@ fn first_by_one(rows: &SpanRows, start: u32, end: u32, grown: u32) -> Option<u32
         }
     }
     None
-}
-
-/// Puts both orders and the greatest ends over all rows right, and counts the rows.
-fn arranged(rows: &SpanRows, by_start: &mut [u32], tops: &mut [u64], by_id: &mut [u32]) -> Tally
-    requires starts { IsPlaced (length rows.now.kept) by_start.old }
-    requires long { length tops.old ≡ length by_start.old }
-    requires ids { IsPlaced (length rows.now.kept) by_id.old }
-    requires distinct { HaveDistinctIds rows.now.kept }
-    ensures { IsWhole rows.now.kept by_start.new tops.new by_id.new result.paragraphs result.composing
-        result.seats.items result.whole result.forward }
-{
-    settle(rows, by_start, tops);
-    sort_by_id(rows, by_id);
-    tally_of(rows)
-}
-
-/// The rows become these, which there is room for, of one step each.
-fn refill<L: Ledger>(kept: &mut SpanRows, rows: &[SpanRow], steps: &mut Steps<L>)
-    requires fits { length rows.now ≤ length kept.old.kept + kept.old.spare }
-    requires bound { length rows.now < bound }
-    ensures kept { kept.new.kept ≡ map (kept_span kept.old.gap kept.old.room) (spans_in rows.now) }
-    ensures spans { spans_of kept.new ≡ spans_in rows.now }
-    ensures gap { kept.new.gap ≡ kept.old.gap }
-    ensures room { kept.new.room ≡ kept.old.room }
-    ensures spare { length kept.old.kept + kept.old.spare ≤ length kept.new.kept + kept.new.spare }
-    ensures ticks { steps.new ≡ steps.old + length rows.now }
-{
-    kept.clear();
-    for row in rows {
-        steps.tick();
-        // There is room, so this succeeds.
-        let _ = kept.add(row);
-    }
-}
-
-/// The list becomes the places below a number that it has room for.
-#[tactic(auto, using(crate::proofs::IndexPlaces::places))]
-fn number(list: &mut Vec<u32>, count: u32)
-    requires { count ≤ vec_capacity list.old }
-    ensures items { list.new.items ≡ range_with_len 0 count }
-    ensures capacity { vec_capacity list.old ≤ vec_capacity list.new }
-{
-    list.clear();
-    for place in 0..count {
-        push_within(list, place);
-    }
-}
-
-/// The list gets a length that it has room for.
-fn lengthen(list: &mut Vec<u64>, count: u32)
-    requires { count ≤ vec_capacity list.old }
-    ensures items { length list.new.items ≡ count }
-    ensures capacity { vec_capacity list.old ≤ vec_capacity list.new }
-{
-    // There is room, so this succeeds.
-    let _ = list.resize(count as usize, 0);
-}
-
-/// How many entries a list of so many lacks, so that it has one for each row and for so many more.
-fn missing(entries: usize, count: u32, spans: u32) -> usize
-    requires { entries ≤ count }
-    ensures { result ≡ count - entries + spans }
-{
-    count as usize - entries + spans as usize
 }
 
 /// Whether so few seats are read with no more steps than a walk over a tree of so many rows may take.

@@ -1,11 +1,10 @@
-//! Rows of spans in a tree over their greatest ends, so that a query reads little more than what it answers.
+//! Rows of spans with their ids, and with their slots in order by start and by end, so that no call but a few reads all
+//! rows.
 #![tactic(auto)]
 
-mod ids;
 mod index;
-mod order;
+mod orders;
 mod query;
-mod tally;
 mod walk;
 
 pub use index::SpanIndex;

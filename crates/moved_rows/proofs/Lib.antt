@@ -3,3 +3,5 @@ pub mod Shifts
 pub mod Landed
 pub mod Stands
 mod Inserted
+mod Removed
+pub mod Places

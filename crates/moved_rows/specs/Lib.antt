@@ -1,3 +1,4 @@
 pub mod Moves
 pub mod Iterated
 pub mod Moving
+pub mod Removing

@@ -3,6 +3,8 @@
 
 mod moved;
 mod moving;
+mod removing;
 
 pub use moved::{MovedRow, MovedRows, MovedRowsIter};
 pub use moving::{insert_units, move_rows};
+pub use removing::remove_rows;

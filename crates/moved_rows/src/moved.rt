@@ -1,12 +1,10 @@
 //! How rows moved at an edit.
 
-ghost use Rattle.std.specs.Prelude.{◌≡◌, ◌≤◌, ◌<◌, ◌+◌, ◌-◌, ◌*◌, ◌++◌, ◌||◌, [], ◌∷◌, ℕ, None, Some, false, length, map, filter_map, option_map, vec_capacity, vec_len, IfOk, OnOk, OnErr, IsOk, MatchOption};
-ghost use Rattle.std.specs.List.{All, IsDistinct, range_with_len, slice_set};
+ghost use Rattle.std.specs.Prelude.{◌≡◌, ◌≤◌, ◌<◌, ◌+◌, ◌-◌, ◌++◌, ◌||◌, [], ◌∷◌, ℕ, None, Some, false, length, map, filter_map, option_map, vec_capacity, vec_len, IfOk, OnOk, OnErr, IsOk, MatchOption};
+ghost use Rattle.std.specs.List.{All, range_with_len, slice_set};
 ghost use Rattle.edit_model.specs.Attached.{is_attached};
 ghost use Rattle.edit_model.specs.Changed.{has_moved};
-ghost use Rattle.edit_model.specs.Rows.{span_of, spans_in};
-ghost use Rattle.interval_tree.specs.Answers.{IsRising, orders_of};
-ghost use Rattle.interval_tree.specs.Ids.{ids_given, same_number};
+ghost use Rattle.edit_model.specs.Rows.{span_of};
 ghost use Rattle.span_table.specs.Numbers.{bound};
 ghost use Rattle.span_table.specs.Table.{HasRoomFor, IsClearOf, closed_span, kept_at, kept_span, pushed_span, seen, span_at, spans_of, without_at};
 ghost use Rattle.moved_rows.specs.Moves.{AreEarlier, ArePlaced, AreNoted, AreStamped, IsBegun, befores, is_set, moved_of, no_old, noted, noted_at, shift_at, shift_of, told_at, told_from};
@@ -63,6 +61,10 @@ impl Model for MovedRows {
         gap = it.rows.gap;
         room = it.rows.room;
         spare = min it.rows.spare (vec_capacity it.olds - vec_len it.olds);
+        slots = it.rows.slots;
+        starts = it.rows.starts;
+        ends = it.rows.ends;
+        left = it.rows.left;
       };
       before = befores it.rows.kept it.olds.items it.stamp it.gap it.room it.stood;
       told = it.told;
@@ -145,29 +147,6 @@ impl MovedRows {
         ensures begun { IsBegun self.new }
     {
         carry_gap(&mut self.rows, to);
-        self.stood = 0;
-        self.begin();
-    }
-
-    /// The list becomes these rows, of which there are no more than stood.
-    pub fn keep<L: Ledger>(&mut self, rows: &[SpanRow], steps: &mut Steps<L>)
-        requires fewer { length rows.now ≤ length self.old.rows.kept }
-        requires distinct { IsDistinct same_number (ids_given rows.now) }
-        requires rising { IsRising (orders_of rows.now) }
-        ensures kept { self.new.rows.kept
-            ≡ map (kept_span self.old.rows.gap self.old.rows.room) (spans_in rows.now) }
-        ensures spans { spans_of self.new.rows ≡ spans_in rows.now }
-        ensures count { length self.new.rows.kept ≡ length rows.now }
-        ensures gap { self.new.rows.gap ≡ self.old.rows.gap }
-        ensures room { self.new.rows.room ≡ self.old.rows.room }
-        ensures spare { length self.old.rows.kept + self.old.rows.spare
-            ≤ length self.new.rows.kept + self.new.rows.spare }
-        ensures begun { IsBegun self.new }
-        ensures more { steps.old ≤ steps.new }
-        ensures ticks { steps.new ≤ steps.old + 2 * (length self.old.rows.kept + length rows.now) }
-    {
-        set_fewer(&mut self.rows, rows, steps);
-        self.olds.truncate(rows.len());
         self.stood = 0;
         self.begin();
     }
@@ -482,21 +461,4 @@ fn carry_gap(rows: &mut SpanIndex, to: u32)
     if gap != to {
         rows.shift_for_gap(gap, to, room, room);
     }
-}
-
-/// The list becomes these rows, for which there is room.
-fn set_fewer<L: Ledger>(index: &mut SpanIndex, rows: &[SpanRow], steps: &mut Steps<L>)
-    requires count { length rows.now ≤ length index.old.kept }
-    requires distinct { IsDistinct same_number (ids_given rows.now) }
-    requires rising { IsRising (orders_of rows.now) }
-    ensures kept { index.new.kept ≡ map (kept_span index.old.gap index.old.room) (spans_in rows.now) }
-    ensures spans { spans_of index.new ≡ spans_in rows.now }
-    ensures gap { index.new.gap ≡ index.old.gap }
-    ensures room { index.new.room ≡ index.old.room }
-    ensures spare { length index.old.kept + index.old.spare ≤ length index.new.kept + index.new.spare }
-    ensures more { steps.old ≤ steps.new }
-    ensures ticks { steps.new ≤ steps.old + 2 * (length index.old.kept + length rows.now) }
-{
-    let _count = index.rows().count();
-    let _ = index.set_rows(rows, steps);
 }

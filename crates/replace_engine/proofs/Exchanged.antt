@@ -1,5 +1,5 @@
 -- What the replacement that is asked for makes of the spans is what it makes of the state.
-use Rattle.std.proofs.Common.{◌≡◌, ℕ, ◌+◌, ◌-◌, ◌≤◌, ◌++◌, List, map, length, refl, ap, length-append, arith}
+use Rattle.std.proofs.Common.{◌≡◌, ℕ, ◌≤◌, ◌++◌, List, map, length, refl, ap, length-append, arith}
 use Rattle.std.proofs.lemmas.List.{length-map}
 use Rattle.edit_base.specs.declared.bounds.TheConstants.Limits.{SPANS}
 use Rattle.edit_base.specs.declared.rows.Incoming.{Incoming}
@@ -9,11 +9,8 @@ use Rattle.edit_model.specs.Replaced.{spliced, replaced, came_spans}
 use Rattle.edit_model.proofs.Newcomers.{length-newcomers}
 use Rattle.text_cut.specs.Coming.{all_coming}
 use Rattle.text_cut.specs.Halves.{joined}
-use Rattle.span_changes.specs.declared.changes.Change.{Change}
 use Rattle.replace_engine.specs.declared.exchanging.Exchange.{Exchange}
 use Rattle.replace_engine.specs.Exchange.{comes, stays}
-use Rattle.span_changes.specs.Rows.{KeepsRoom, span_room}
-use Rattle.replace_engine.proofs.Sound.{room_grows}
 
 module _ (state : State) (s e : ℕ) (incoming : Incoming) (asked : Exchange) (spans : List Span)
     (now : record { units = joined asked.text; spans = spans } ≡ state) (brings : asked.brought.now ≡ incoming.units)
@@ -38,11 +35,3 @@ module _ (state : State) (s e : ℕ) (incoming : Incoming) (asked : Exchange) (s
     ),
     omega (arith, few, ap length asked_stands, length-append (stays asked spans) (comes asked spans)),
   )
-
--- each span that comes takes at most one spare span
-pub spare_exchanged : (came old_touched new_touched : ℕ) (old new : Change) → old_touched ≤ new_touched → KeepsRoom old new
-    → length old.moved.rows.kept + old.moved.rows.spare ≤ length new.moved.rows.kept + new.moved.rows.spare
-    → length new.moved.rows.kept ≤ length old.moved.rows.kept + came
-    → span_room old_touched old - length old.moved.rows.kept ≤ span_room new_touched new - length new.moved.rows.kept + came
-spare_exchanged came old_touched new_touched old new grows keeps spare count =
-    let more = room_grows old_touched new_touched old new grows spare keeps in omega (arith, more, count)

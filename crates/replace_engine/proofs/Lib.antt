@@ -8,4 +8,5 @@ pub mod Counted
 pub mod Tables
 pub mod Passing
 pub mod MovingNone
+mod Emptied
 mod Within

@@ -1,14 +1,12 @@
 -- A range that empties no span.
-use Rattle.std.proofs.Common.{◌≡◌, ℕ, ◌&&◌, Bool, true, false, eqb, leb, ltb, List, [], ◌∷◌, Option, is_some, refl, sym, ap, ◌∙◌, arith}
+use Rattle.std.proofs.Common.{◌≡◌, ℕ, ◌&&◌, Bool, true, false, eqb, leb, ltb, List, [], ◌∷◌, refl, ap, arith}
 use Rattle.std.specs.List.{AllByRecursion}
 use Rattle.std.proofs.lemmas.Bool.{and_parts, eqb-true}
 use Rattle.std.proofs.lemmas.Bool.Decides.{nat_tests}
 use Rattle.edit_model.specs.Flags.{is_point_mark, kind_of}
 use Rattle.edit_model.specs.State.{Span}
 use Rattle.edit_model.specs.Replaced.{emptied_spans, is_emptied, kept_spans}
-use Rattle.edit_model.proofs.SpanLists.{all_each, all_fail}
-use Rattle.interval_tree.specs.Answers.{first_emptied}
-use Rattle.interval_tree.proofs.IdsAttached.{first_any}
+use Rattle.edit_model.proofs.SpanLists.{all_each}
 
 empty_test : (some : Bool) (start end first last : ℕ) (rest : Bool) → start ≡ end
     → (some && ltb start end && leb start first && leb last end && rest) ≡ false
@@ -24,11 +22,6 @@ module _ (start end grown : ℕ) where
   unfolding AreSpared
   spared_by_none same = all_each (λ span. is_emptied start end grown span ≡ false)
       (λ span. empty_test (is_point_mark (kind_of span.flags)) start end span.start span.end _ same)
-
-  pub spared_all : (found : Option ℕ) (spans : List Span) → is_some found ≡ false → found ≡ first_emptied start end grown spans → AreSpared spans
-  unfolding AreSpared
-  spared_all found spans none is =
-      all_fail (is_emptied start end grown) spans (sym (first_any (is_emptied start end grown) found spans is) ∙ none)
 
   pub spared_kept : (spans : List Span) → AreSpared spans → spans ≡ kept_spans start end grown spans
   unfolding AreSpared

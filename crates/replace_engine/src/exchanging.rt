@@ -60,14 +60,14 @@ pub fn exchange_spans<L: Ledger>(
         ≡ change.old.moved.rows.room + (asked.now.end - asked.now.start) }
     ensures count { length change.new.moved.rows.kept
         ≤ length change.old.moved.rows.kept + length (comes asked.now (spans_of change.old.moved.rows)) }
-    ensures left { length change.old.moved.rows.kept + change.old.moved.rows.spare
-        ≤ length change.new.moved.rows.kept + change.new.moved.rows.spare }
+    ensures left { change.old.moved.rows.spare
+        ≤ change.new.moved.rows.spare + length (comes asked.now (spans_of change.old.moved.rows)) }
     ensures touched { vec_capacity touched.old ≤ vec_capacity touched.new }
     ensures lists { KeepsRoom change.old change.new }
     ensures idle { is_plain asked.now.start asked.now.end (length (joined asked.now.text))
         (spans_of change.old.moved.rows) ≡ true → steps.new ≡ steps.old }
     ensures more { steps.old ≤ steps.new }
-    ensures ticks { steps.new ≤ steps.old + 6 * length change.old.moved.rows.kept }
+    ensures ticks { steps.new ≤ steps.old + 2 * length change.old.moved.rows.kept }
 {
     let Exchange {
         text,
@@ -83,7 +83,6 @@ pub fn exchange_spans<L: Ledger>(
         start,
         end,
         brought.len() as u32,
-        touched,
         &mut change.removed,
         steps,
     );

@@ -1,14 +1,15 @@
 //! Spans that a replacement empties and moves.
 
-ghost use Rattle.std.specs.Prelude.{◌≡◌, ◌≤◌, ◌<◌, ◌+◌, ◌-◌, ◌*◌, ◌++◌, ◌∷◌, [], true, Some, None, length, vec_capacity, vec_len, map, if◌then◌else◌};
-ghost use Rattle.std.specs.List.{All, IsDistinct, list_any};
+ghost use Rattle.std.specs.Prelude.{◌≡◌, ◌≤◌, ◌+◌, ◌-◌, [], true, Some, None, filter, length, vec_capacity, map};
+ghost use Rattle.std.specs.List.{All, list_any};
+ghost use Rattle.std.specs.List.Sorted.{IsNonDecreasingBy, IsPermutation};
 ghost use Rattle.edit_model.specs.Boundaries.{next_boundary};
 ghost use Rattle.edit_model.specs.Replaced.{emptied_spans, is_emptied, kept_spans, moved_span};
 ghost use Rattle.edit_model.specs.Rows.{IsAtOrder, span_of, spans_in};
-ghost use Rattle.interval_tree.specs.Answers.{IsRising, orders_of};
-ghost use Rattle.interval_tree.specs.Ids.{ids_given, same_number};
+ghost use Rattle.interval_tree.specs.Answers.{IsForward, orders_of};
 ghost use Rattle.moved_rows.specs.Moves.{IsBegun};
 ghost use Rattle.moved_rows.specs.Moving.{IsSpanWithin};
+ghost use Rattle.moved_rows.specs.Removing.{passing};
 ghost use Rattle.span_table.specs.Table.{spans_of};
 ghost use Rattle.text_cut.specs.Halves.{joined};
 ghost use Rattle.text_cut.specs.Pulled.{pulls_one};
@@ -17,102 +18,88 @@ ghost use Rattle.replace_engine.specs.Rows.{whole};
 
 use edit_base::{SpanRow, Steps};
 use interval_tree::SpanIndex;
-use moved_rows::{MovedRows, insert_units, move_rows};
+use moved_rows::{MovedRows, insert_units, move_rows, remove_rows};
 use span_flags::is_emptied;
-use span_table::push_within;
 use std::sync::ledger::Ledger;
 use text_cut::Cut;
 
-/// The spans that are emptied when the units from `start` to `end` become `grown` units go to the removed ones. `rest`
-/// is room for the others. Both lists have room for all rows.
+/// The spans that are emptied when the units from `start` to `end` become `grown` units go to the removed ones, in order
+/// of attachment. Of the rows only those that touch the range are read. The list has room for all rows.
 pub fn drop_emptied<L: Ledger>(
     moved: &mut MovedRows,
     start: u32,
     end: u32,
     grown: u32,
-    rest: &mut Vec<SpanRow>,
     removed: &mut Vec<SpanRow>,
     steps: &mut Steps<L>,
 )
     requires none { removed.old.items ≡ [] }
     requires begun { IsBegun moved.old }
-    requires rest_room { length moved.old.rows.kept ≤ vec_capacity rest.old }
+    requires forward { All IsForward (spans_of moved.old.rows) }
     requires room { length moved.old.rows.kept ≤ vec_capacity removed.old }
     ensures begun { IsBegun moved.new }
     ensures kept { spans_of moved.new.rows ≡ kept_spans start end grown (spans_of moved.old.rows) }
     ensures removed { spans_in removed.new.items ≡ emptied_spans start end grown (spans_of moved.old.rows) }
     ensures gap { moved.new.rows.gap ≡ moved.old.rows.gap }
     ensures gap_room { moved.new.rows.room ≡ moved.old.rows.room }
-    ensures spare { length moved.old.rows.kept + moved.old.rows.spare
-        ≤ length moved.new.rows.kept + moved.new.rows.spare }
+    ensures spare { moved.old.rows.spare ≤ moved.new.rows.spare }
     ensures fewer { length moved.new.rows.kept ≤ length moved.old.rows.kept }
     ensures capacity { vec_capacity removed.old ≤ vec_capacity removed.new }
-    ensures rest_capacity { vec_capacity rest.old ≤ vec_capacity rest.new }
     ensures none_cut { start ≡ end → moved.new ≡ moved.old }
     ensures idle { start ≡ end → steps.new ≡ steps.old }
     ensures more { steps.old ≤ steps.new }
-    ensures ticks { steps.new ≤ steps.old + 5 * length moved.old.rows.kept }
+    ensures ticks { steps.new ≤ steps.old + length moved.old.rows.kept }
 {
-    if start == end || moved.rows().first_emptied(start, end, grown).is_none() {
+    if start == end {
         return;
     }
-    rest.clear();
-    part_rows(moved.rows(), start, end, grown, rest, removed, steps);
-    moved.keep(rest, steps);
+    find_emptied(moved.rows(), start, end, grown, removed, steps);
+    remove_rows(moved, removed);
 }
 
-/// The rows that are emptied go to the removed ones, and all others behind those of `rest`.
-fn part_rows<L: Ledger>(
+/// The rows that are emptied, in order of attachment. `found` is cleared first, and has room for all rows.
+fn find_emptied<L: Ledger>(
     rows: &SpanIndex,
     start: u32,
     end: u32,
     grown: u32,
-    rest: &mut Vec<SpanRow>,
-    removed: &mut Vec<SpanRow>,
+    found: &mut Vec<SpanRow>,
     steps: &mut Steps<L>,
 )
-    requires none { rest.old.items ≡ [] }
-    requires none_removed { removed.old.items ≡ [] }
-    requires rest_room { length rows.now.kept ≤ vec_capacity rest.old }
-    requires room { length rows.now.kept ≤ vec_capacity removed.old }
-    ensures kept { spans_in rest.new.items ≡ kept_spans start end grown (spans_of rows.now) }
-    ensures removed { spans_in removed.new.items ≡ emptied_spans start end grown (spans_of rows.now) }
-    ensures fewer { length rest.new.items ≤ length rows.now.kept }
-    ensures distinct { IsDistinct same_number (ids_given rest.new.items) }
-    ensures rising { IsRising (orders_of rest.new.items) }
-    ensures capacity { vec_capacity removed.old ≤ vec_capacity removed.new }
-    ensures rest_capacity { vec_capacity rest.old ≤ vec_capacity rest.new }
-    ensures ticks { steps.new ≡ steps.old + length rows.now.kept }
+    requires forward { All IsForward (spans_of rows.now) }
+    requires room { length rows.now.kept ≤ vec_capacity found.old }
+    ensures spans { spans_in found.new.items ≡ emptied_spans start end grown (spans_of rows.now) }
+    ensures orders { orders_of found.new.items ≡ passing (is_emptied start end grown) (spans_of rows.now) }
+    ensures capacity { vec_capacity found.old ≤ vec_capacity found.new }
+    ensures more { steps.old ≤ steps.new }
+    ensures ticks { steps.new ≤ steps.old + length rows.now.kept }
 {
-    for i in 0..rows.rows().count() {
-        let row = rows.rows().row(i, steps);
-        part_row(row, start, end, grown, rest, removed);
-    }
+    // There is room, so this succeeds.
+    let _ = rows.touching(start, end, found, steps);
+    keep_emptied(found, start, end, grown);
+    sort_by_order(found);
 }
 
-/// The row goes to the removed ones if it is emptied, else behind those of `rest`.
-fn part_row(
-    row: SpanRow,
-    start: u32,
-    end: u32,
-    grown: u32,
-    rest: &mut Vec<SpanRow>,
-    removed: &mut Vec<SpanRow>,
-)
-    requires rest_room { vec_len rest.old < vec_capacity rest.old }
-    requires room { vec_len removed.old < vec_capacity removed.old }
-    ensures rest { rest.new.items
-        ≡ (if is_emptied start end grown (span_of row) then rest.old.items else rest.old.items ++ row ∷ []) }
-    ensures removed { removed.new.items
-        ≡ (if is_emptied start end grown (span_of row) then removed.old.items ++ row ∷ [] else removed.old.items) }
-    ensures capacity { vec_capacity removed.old ≤ vec_capacity removed.new }
-    ensures rest_capacity { vec_capacity rest.old ≤ vec_capacity rest.new }
+/// Of these rows those that are emptied.
+fn keep_emptied(rows: &mut Vec<SpanRow>, start: u32, end: u32, grown: u32)
+    ensures rows { rows.new.items ≡ filter (λ row. is_emptied start end grown (span_of row)) rows.old.items }
+    ensures capacity { vec_capacity rows.new ≡ vec_capacity rows.old }
 {
-    if is_emptied(&row, start, end, grown) {
-        push_within(removed, row);
-    } else {
-        push_within(rest, row);
-    }
+    rows.retain(|row| is_emptied(row, start, end, grown));
+}
+
+fn sort_by_order(rows: &mut Vec<SpanRow>)
+    ensures permutation { IsPermutation rows.old.items rows.new.items }
+    ensures rising { IsNonDecreasingBy (λ row. row.order) rows.new.items }
+    ensures capacity { vec_capacity rows.new ≡ vec_capacity rows.old }
+{
+    rows.sort_unstable_by_key(order);
+}
+
+fn order(row: &SpanRow) -> u64
+    ensures { result ≡ row.now.order }
+{
+    row.order
 }
 
 /// Whether the gap alone moves all ends: no unit goes, and those that come don't come behind the last one of a text in

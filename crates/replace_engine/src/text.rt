@@ -382,7 +382,7 @@ impl SpannedText {
             × (self.new.gap ≡ self.old.gap)) }
         ensures gap { OnOk result (self.new.gap ≡ start + length incoming.now.units) }
         ensures ticks { OnOk result (steps.new ≤ steps.old + abs_diff self.old.gap end + length incoming.now.units
-            + 6 * length self.old.state.spans) }
+            + 2 * length self.old.state.spans) }
         ensures plain { OnOk result (is_plain start end (length self.old.state.units) self.old.state.spans ≡ true
             → steps.new ≡ steps.old + abs_diff self.old.gap end + length incoming.now.units) }
         ensures idle { OnErr result (steps.new ≡ steps.old) }
@@ -726,7 +726,7 @@ impl SpannedText {
         ensures well_formed { IsWellFormed self.new.state }
         ensures seated { (slots : ℕ) → IsSeated slots self.old.state.spans → IsSeated slots self.new.state.spans }
     {
-        drop_rows(&mut self.touched, &mut self.change);
+        drop_rows(&mut self.change);
     }
 
     /// Makes these units the composing region, behind all other spans, where the verdict is done; else nothing changes.

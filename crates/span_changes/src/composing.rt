@@ -1,7 +1,7 @@
 //! The composing region, and the spans that go together with it.
 
 ghost use Rattle.std.specs.Prelude.{ℕ, List, ◌≡◌, ◌≤◌, ◌<◌, ◌+◌, ◌++◌, ◌∷◌, ◌&&◌, [], length, filter, not, true, false, is_some, vec_capacity, vec_len, OnOk, OnErr, IsOk, if◌then◌else◌};
-ghost use Rattle.std.specs.List.{IsDistinct, list_any};
+ghost use Rattle.std.specs.List.{list_any};
 ghost use Rattle.edit_base.specs.declared.bounds.TheConstants.Limits.{SPANS};
 ghost use Rattle.edit_model.specs.declared.steps.Step.TheVariants.{Drop, Mark};
 ghost use Rattle.edit_model.specs.Attached.{has_id};
@@ -11,8 +11,8 @@ ghost use Rattle.edit_model.specs.Rows.{span_of, spans_in};
 ghost use Rattle.edit_model.specs.Selection.{has_region, is_dropped, region, region_span};
 ghost use Rattle.edit_model.specs.Verdicts.{judged};
 ghost use Rattle.edit_model.specs.WellFormed.{HasDistinctIds};
-ghost use Rattle.interval_tree.specs.Answers.{IsRising, orders_of};
-ghost use Rattle.interval_tree.specs.Ids.{ids_given, same_number};
+ghost use Rattle.interval_tree.specs.Answers.{orders_of};
+ghost use Rattle.moved_rows.specs.Removing.{passing};
 ghost use Rattle.span_table.specs.Table.{spans_of};
 ghost use Rattle.span_changes.specs.Changes.{effect_of};
 ghost use Rattle.span_changes.specs.Rows.{HasRoom, IsTold, KeepsRoom, SeesGap, span_room, state_with};
@@ -20,12 +20,11 @@ ghost use Rattle.span_changes.specs.Rows.{HasRoom, IsTold, KeepsRoom, SeesGap, s
 use crate::attached::is_attached;
 use crate::changes::Change;
 use crate::setting::{remove_row, set_row};
-use edit_base::{Limits, NoMemory, Refusal, SpanRow, Steps, Verdict, What};
+use edit_base::{Limits, NoMemory, Refusal, SpanRow, Verdict, What};
 use interval_tree::SpanIndex;
+use moved_rows::remove_rows;
 use span_flags::is_composing;
 use span_table::push_within;
-use std::marker::Brand;
-use std::sync::ledger::{Blank, Ledger};
 
 /// Where the composing region stands; none where it isn't attached.
 pub fn region_of(rows: &SpanIndex) -> Option<(u32, u32)>
@@ -114,10 +113,10 @@ fn has_dropped(rows: &SpanIndex) -> bool
 }
 
 /// The region goes, and all spans that are part of a composing text, and the change says so. All rows are read only
-/// where one goes that isn't the region.
-pub fn drop_rows(rest: &mut Vec<SpanRow>, change: &mut Change)
+/// where one goes that isn't the region. There is room for telling of all rows.
+pub fn drop_rows(change: &mut Change)
     requires distinct { HasDistinctIds (spans_of change.old.moved.rows) }
-    requires told { HasRoom (length change.old.moved.rows.kept) (vec_capacity rest.old) change.old }
+    requires room { length change.old.moved.rows.kept ≤ vec_capacity change.old.removed }
     ensures rows { spans_of change.new.moved.rows
         ≡ filter (λ span. not (is_dropped span)) (spans_of change.old.moved.rows) }
     ensures effect { effect_of change.new
@@ -126,13 +125,12 @@ pub fn drop_rows(rest: &mut Vec<SpanRow>, change: &mut Change)
     ensures fewer { length change.new.moved.rows.kept ≤ length change.old.moved.rows.kept }
     ensures gap { SeesGap change.old.moved.rows change.new.moved.rows }
     ensures spare { change.old.moved.rows.spare ≤ change.new.moved.rows.spare }
-    ensures rest { vec_capacity rest.old ≤ vec_capacity rest.new }
     ensures lists { KeepsRoom change.old change.new }
 {
     if is_region_alone(change.moved.rows()) {
         remove_row(2, change);
     } else {
-        drop_counted::<Brand>(rest, change, Blank::new(1));
+        drop_all(change);
     }
 }
 
@@ -161,11 +159,9 @@ fn count_composing(row: &SpanRow) -> u32
     if is_composing(row.flags) { 1 } else { 0 }
 }
 
-fn drop_counted<L: Ledger>(rest: &mut Vec<SpanRow>, change: &mut Change, blank: Blank)
-    requires name { blank.name ≡ L.name }
-    requires parts { blank.parts ≡ L.parts }
-    requires some { 0 < blank.parts }
-    requires told { HasRoom (length change.old.moved.rows.kept) (vec_capacity rest.old) change.old }
+/// Each span that a drop takes goes, and the change says so.
+fn drop_all(change: &mut Change)
+    requires room { length change.old.moved.rows.kept ≤ vec_capacity change.old.removed }
     ensures rows { spans_of change.new.moved.rows
         ≡ filter (λ span. not (is_dropped span)) (spans_of change.old.moved.rows) }
     ensures effect { effect_of change.new
@@ -174,49 +170,35 @@ fn drop_counted<L: Ledger>(rest: &mut Vec<SpanRow>, change: &mut Change, blank: 
     ensures fewer { length change.new.moved.rows.kept ≤ length change.old.moved.rows.kept }
     ensures gap { SeesGap change.old.moved.rows change.new.moved.rows }
     ensures spare { change.old.moved.rows.spare ≤ change.new.moved.rows.spare }
-    ensures rest { vec_capacity rest.old ≤ vec_capacity rest.new }
     ensures lists { KeepsRoom change.old change.new }
 {
-    let mut steps = Steps::<L>::start(blank);
     change.start(0, 0, 0);
-    rest.clear();
-    part(change.moved.rows(), rest, &mut change.removed);
-    change.moved.keep(rest, &mut steps);
+    change.moved.begin();
+    find_dropped(change.moved.rows(), &mut change.removed);
+    remove_rows(&mut change.moved, &change.removed);
 }
 
-/// The rows that a drop takes go to the removed ones, and all others behind those of `rest`.
-fn part(rows: &SpanIndex, rest: &mut Vec<SpanRow>, removed: &mut Vec<SpanRow>)
-    requires none { rest.old.items ≡ [] }
-    requires none_removed { removed.old.items ≡ [] }
-    requires rest_room { length rows.now.kept ≤ vec_capacity rest.old }
-    requires room { length rows.now.kept ≤ vec_capacity removed.old }
-    ensures kept { spans_in rest.new.items ≡ filter (λ span. not (is_dropped span)) (spans_of rows.now) }
-    ensures removed { spans_in removed.new.items ≡ filter is_dropped (spans_of rows.now) }
-    ensures fewer { length rest.new.items ≤ length rows.now.kept }
-    ensures distinct { IsDistinct same_number (ids_given rest.new.items) }
-    ensures rising { IsRising (orders_of rest.new.items) }
-    ensures capacity { vec_capacity removed.old ≤ vec_capacity removed.new }
-    ensures rest_capacity { vec_capacity rest.old ≤ vec_capacity rest.new }
+/// The rows that a drop takes, in order of attachment, in a list that has room for all rows.
+fn find_dropped(rows: &SpanIndex, found: &mut Vec<SpanRow>)
+    requires none { found.old.items ≡ [] }
+    requires room { length rows.now.kept ≤ vec_capacity found.old }
+    ensures spans { spans_in found.new.items ≡ filter is_dropped (spans_of rows.now) }
+    ensures orders { orders_of found.new.items ≡ passing is_dropped (spans_of rows.now) }
+    ensures capacity { vec_capacity found.old ≤ vec_capacity found.new }
 {
     for i in 0..rows.rows().count() {
-        part_row(rows.rows().read(i), rest, removed);
+        push_dropped(rows.rows().read(i), found);
     }
 }
 
-/// The row goes to the removed ones if a drop takes it, else behind those of `rest`.
-fn part_row(row: SpanRow, rest: &mut Vec<SpanRow>, removed: &mut Vec<SpanRow>)
-    requires rest_room { vec_len rest.old < vec_capacity rest.old }
-    requires room { vec_len removed.old < vec_capacity removed.old }
-    ensures rest { rest.new.items
-        ≡ (if is_dropped (span_of row) then rest.old.items else rest.old.items ++ row ∷ []) }
-    ensures removed { removed.new.items
-        ≡ (if is_dropped (span_of row) then removed.old.items ++ row ∷ [] else removed.old.items) }
-    ensures capacity { vec_capacity removed.old ≤ vec_capacity removed.new }
-    ensures rest_capacity { vec_capacity rest.old ≤ vec_capacity rest.new }
+/// The row goes behind those that are found, where a drop takes it.
+fn push_dropped(row: SpanRow, found: &mut Vec<SpanRow>)
+    requires room { vec_len found.old < vec_capacity found.old }
+    ensures found { found.new.items
+        ≡ (if is_dropped (span_of row) then found.old.items ++ row ∷ [] else found.old.items) }
+    ensures capacity { vec_capacity found.old ≤ vec_capacity found.new }
 {
     if row.id == 2 || is_composing(row.flags) {
-        push_within(removed, row);
-    } else {
-        push_within(rest, row);
+        push_within(found, row);
     }
 }

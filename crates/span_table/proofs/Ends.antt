@@ -1,7 +1,8 @@
 -- One end as the gap moves, takes units, or lets units go.
-use Rattle.std.proofs.Common.{◌≡◌, ℕ, ◌<◌, ◌≤◌, ◌+◌, ◌-◌, ◌/◌, Bool, true, false, arith, refl, sym, ap, ◌∙◌}
+use Rattle.std.proofs.Common.{◌≡◌, ℕ, ◌<◌, ◌≤◌, ◌+◌, ◌-◌, ◌*◌, ◌/◌, Bool, true, false, ◌&&◌, nat_lt, nat_le, min, max, arith, refl, sym, ap, ◌∙◌}
 use Rattle.std.proofs.lemmas.Bool.Decides.{nat_tests}
-use Rattle.span_table.specs.Numbers.{bare_of, bound, closed, number_at, opened, place_of, pushed, shut, IsClear, IsNumber}
+use Rattle.span_table.specs.Slots.{IsShut}
+use Rattle.span_table.specs.Numbers.{bare_of, crosses, bound, closed, number_at, opened, place_of, pushed, shut, IsClear, IsNumber}
 
 -- ---- a place, and its number
 
@@ -42,6 +43,49 @@ elsewhere_valid : (gap room other_gap other_room : ℕ) (points : Bool) (number 
 elsewhere_valid gap room other_gap other_room points number to valid same fits =
     let back = elsewhere gap room other_gap other_room points number to valid same in
     record { is = valid.is ∙ same ∙ ap (number_at other_gap other_room points) (sym back); fits = omega (arith, back, fits) }
+
+abbrev crosses_bare : ℕ → ℕ → ℕ → Bool
+crosses_bare gap to bare = nat_lt (2 * min gap to) bare && nat_le bare (2 * max gap to)
+
+opened_behind : (gap room bare number : ℕ) → number ≡ opened gap room bare → 2 * gap < number → 2 * room ≤ number
+opened_behind gap room bare number is past = grind (arith, nat_tests)
+
+-- it can be read
+pub number_shut : (gap room : ℕ) (points : Bool) (number : ℕ) → IsNumber gap room points number → IsShut gap room number
+number_shut gap room points number valid = record {
+  opens = valid.is ∙ sym (ap (opened gap room) (shut_bare gap room points number valid));
+  behind = opened_behind gap room (bare_of points (place_of gap room number)) number valid.is;
+  fits = valid.fits;
+}
+
+-- ---- the gap goes elsewhere, and stays as long
+
+risen_bare : (gap to room bare number : ℕ) → number ≡ opened gap room bare → to < gap → crosses_bare gap to bare ≡ true → number + 2 * room ≡ opened to room bare
+risen_bare gap to room bare number is order between = grind (arith, nat_tests)
+
+fallen_bare : (gap to room bare number : ℕ) → number ≡ opened gap room bare → gap ≤ to → crosses_bare gap to bare ≡ true → number - 2 * room ≡ opened to room bare
+fallen_bare gap to room bare number is order between = grind (arith, nat_tests)
+
+lowest_bare : (gap to room bare number : ℕ) → number ≡ opened gap room bare → gap ≤ to → crosses_bare gap to bare ≡ true → 2 * room ≤ number
+lowest_bare gap to room bare number is order between = grind (arith, nat_tests)
+
+stood_bare : (gap to room bare number : ℕ) → number ≡ opened gap room bare → crosses_bare gap to bare ≡ false → opened to room bare ≡ number
+stood_bare gap to room bare number is beside = grind (arith, nat_tests)
+
+pub risen : (gap to room number : ℕ) → IsShut gap room number → to < gap → crosses gap to room number ≡ true
+    → number + 2 * room ≡ opened to room (shut gap room number)
+risen gap to room number valid = risen_bare gap to room (shut gap room number) number valid.opens
+
+pub fallen : (gap to room number : ℕ) → IsShut gap room number → gap ≤ to → crosses gap to room number ≡ true
+    → number - 2 * room ≡ opened to room (shut gap room number)
+fallen gap to room number valid = fallen_bare gap to room (shut gap room number) number valid.opens
+
+pub lowest : (gap to room number : ℕ) → IsShut gap room number → gap ≤ to → crosses gap to room number ≡ true → 2 * room ≤ number
+lowest gap to room number valid = lowest_bare gap to room (shut gap room number) number valid.opens
+
+pub stood : (gap to room number : ℕ) → IsShut gap room number → crosses gap to room number ≡ false
+    → opened to room (shut gap room number) ≡ number
+stood gap to room number valid = stood_bare gap to room (shut gap room number) number valid.opens
 
 -- ---- n units come at the gap
 

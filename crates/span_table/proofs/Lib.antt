@@ -1,2 +1,6 @@
+mod Changes
 mod Ends
+mod Found
 pub mod Lists
+mod Places
+mod Runs

@@ -1,7 +1,7 @@
 -- Ends of spans as numbers round a gap: the side on which an end stands at its place is part of its number, and those
 -- behind the gap have twice its length added. Text that comes at the gap, or goes before it, changes no number, and the
 -- order of numbers is the same wherever the gap stands.
-use Rattle.std.specs.Prelude.{ℕ, ◌≡◌, ◌<◌, ◌≤◌, ◌+◌, ◌-◌, ◌*◌, ◌/◌, Bool, true, false, if◌then◌else◌, nat_lt, nat_le}
+use Rattle.std.specs.Prelude.{ℕ, ◌≡◌, ◌<◌, ◌≤◌, ◌+◌, ◌-◌, ◌*◌, ◌/◌, Bool, true, false, ◌&&◌, if◌then◌else◌, nat_lt, nat_le, min, max}
 use Rattle.edit_model.specs.declared.kinds.EndKind.{EndKind}
 use Rattle.edit_model.specs.declared.kinds.EndKind.TheVariants.{Mark, Point, Paragraph}
 use Rattle.edit_model.specs.Flags.{kind_of, start_kind, end_kind}
@@ -41,6 +41,10 @@ number_at gap room points place = opened gap room (bare_of points place)
 -- the place of a number
 abbrev pub place_of : ℕ → ℕ → ℕ → ℕ
 place_of gap room number = shut gap room number / 2
+
+-- the end of this number stands between two places of the gap, so that another number is its when the one becomes the other
+abbrev pub crosses : ℕ → ℕ → ℕ → ℕ → Bool
+crosses gap to room number = nat_lt (2 * min gap to) (shut gap room number) && nat_le (shut gap room number) (2 * max gap to)
 
 -- the number is one of an end on this side of its place, which fits a u32
 pub record IsNumber (gap room : ℕ) (points : Bool) (number : ℕ) : Type 0 where

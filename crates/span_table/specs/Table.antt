@@ -1,5 +1,6 @@
 -- Rows whose ends are kept as numbers.
-use Rattle.std.specs.Prelude.{ℕ, ◌<◌, ◌+◌, ◌++◌, List, map, take, drop, slice_index_or, Option, position}
+use Rattle.std.specs.Prelude.{ℕ, ◌≡◌, ◌<◌, ◌+◌, ◌++◌, ◌∷◌, [], List, length, map, take, drop, slice_index, slice_index_or, Option, position}
+use Rattle.std.specs.List.{range_with_len}
 use Rattle.edit_base.specs.declared.kinds.What.TheVariants.{Tag}
 use Rattle.edit_model.specs.State.{Span}
 use Rattle.edit_model.specs.Attached.{has_id}
@@ -12,6 +13,13 @@ pub record Rows : Type 0 where
   pub gap : ℕ
   pub room : ℕ
   pub spare : ℕ
+  -- the slots of the rows, rising: the row at a place of the list is kept in the slot at that place
+  pub slots : List ℕ
+  -- the numbers by slot; those of slots without a row mean nothing
+  pub starts : List ℕ
+  pub ends : List ℕ
+  -- how many slots may come before those without a row have to be squeezed out
+  pub left : ℕ
 
 -- the span of a row, with such a gap
 abbrev pub seen : ℕ → ℕ → KeptRow → Span
@@ -60,6 +68,20 @@ without_at i xs = take i xs ++ drop (i + 1) xs
 -- the span with other ends
 abbrev pub with_ends : ℕ → ℕ → Span → Span
 with_ends start end span = record span { start = start; end = end }
+
+-- the rows where slots without one are squeezed out: each in the slot of its place
+abbrev pub squeezed : Rows → Rows
+squeezed rows = record rows {
+  slots = range_with_len 0 (length rows.kept);
+  starts = map (slice_index rows.starts) rows.slots;
+  ends = map (slice_index rows.ends) rows.slots;
+}
+
+-- a row came in a slot behind all others
+pub record IsAppended (row : KeptRow) (old new : Rows) : Type 0 where
+  pub slots : new.slots ≡ old.slots ++ length old.starts ∷ []
+  pub starts : new.starts ≡ old.starts ++ row.start ∷ []
+  pub ends : new.ends ≡ old.ends ++ row.end ∷ []
 
 -- both ends of a row are numbers, each of its side
 pub record AreNumbers (gap room : ℕ) (row : KeptRow) : Type 0 where

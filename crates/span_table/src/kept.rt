@@ -1,11 +1,10 @@
 //! A row as it is kept.
 
-ghost use Rattle.std.specs.Prelude.{◌≡◌, map};
-ghost use Rattle.std.specs.List.{All};
+ghost use Rattle.std.specs.Prelude.{◌≡◌};
 ghost use Rattle.edit_model.specs.Rows.{span_of};
 ghost use Rattle.span_table.specs.Table.{AreNumbers, kept_span, seen};
 
-use crate::numbers::{carried, ends_behind, number_at, place_of, starts_behind};
+use crate::numbers::{ends_behind, number_at, place_of, starts_behind};
 use edit_base::{SpanRow, What};
 
 /// An attached span as it is kept: its ends are numbers round a gap, and its order is its place among the rows.
@@ -48,29 +47,5 @@ impl KeptRow {
             order,
             what: self.what,
         }
-    }
-
-    /// The row of the same span, with another gap.
-    fn carried(&self, old_gap: u32, old_room: u32, new_gap: u32, new_room: u32) -> KeptRow
-        requires { AreNumbers old_gap old_room self.now }
-        ensures { result ≡ kept_span new_gap new_room (seen old_gap old_room self.now) }
-    {
-        KeptRow {
-            start: carried(self.start, old_gap, old_room, new_gap, new_room),
-            end: carried(self.end, old_gap, old_room, new_gap, new_room),
-            ..*self
-        }
-    }
-}
-
-/// Rows that are kept for one gap are kept for another, and seen there as before.
-pub fn keep_anew(rows: &mut [KeptRow], old_gap: u32, old_room: u32, new_gap: u32, new_room: u32)
-    requires { All (AreNumbers old_gap old_room) rows.old }
-    ensures kept { rows.new ≡ map (kept_span new_gap new_room) (map (seen old_gap old_room) rows.old) }
-    ensures spans { map (seen new_gap new_room) rows.new ≡ map (seen old_gap old_room) rows.old }
-    ensures numbers { All (AreNumbers new_gap new_room) rows.new }
-{
-    for row in rows.iter_mut() {
-        *row = row.carried(old_gap, old_room, new_gap, new_room);
     }
 }

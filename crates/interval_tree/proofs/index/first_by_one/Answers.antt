@@ -3,7 +3,7 @@ use Rattle.std.proofs.Common.{sym, ap, ◌∙◌, below_more, arith}
 use Rattle.std.proofs.lemmas.List.{length-map}
 use Rattle.edit_model.specs.Replaced.{is_emptied}
 use Rattle.span_table.specs.Table.{seen, spans_of}
-use Rattle.interval_tree.proofs.IndexAhead.{first_passes, none_passes}
+use Rattle.interval_tree.proofs.IndexFirst.{first_passes, none_passes}
 use Rattle.interval_tree.proofs.index.first_by_one.Goals as goal
 
 pub returns-then-is_emptied : goal.returns-then-is_emptied

@@ -8,13 +8,12 @@ use Rattle.edit_model.specs.Rows.{IsAtOrder}
 use Rattle.interval_tree.specs.declared.walk.Asked.TheVariants.{Over}
 use Rattle.span_table.specs.Table.{seen, spans_of}
 use Rattle.interval_tree.proofs.QueryOrder.{found_orders, found_over}
-use Rattle.interval_tree.proofs.QueryTree.{index_all, index_each}
+use Rattle.interval_tree.proofs.QueryPlaces.{places_within}
 use Rattle.interval_tree.proofs.query.over.Goals as goal
 
 pub returns-clause-ok : goal.returns-clause-ok
 returns-clause-ok g c =
-    found_over c.args.start c.args.end c.args.pick (spans_of c.args.tree.rows.now) _
-    (index_all c.args.tree.rows.now c.args.tree.by_start.now c.args.tree.tops.now c.requires) c.sort.new.rows.items
+    found_over c.args.start c.args.end c.args.pick (spans_of c.args.tree.rows.now) _ c.ask.ensures.places c.sort.new.rows.items
     (omega (arith, length-map c.args.tree.rows.now.kept (seen c.args.tree.rows.now.gap c.args.tree.rows.now.room), c.in_ok-ask.ensures.few))
     (subst (λ items. IsPermutation items c.sort.new.rows.items) c.in_ok-ask.ensures.ok c.sort.ensures.permutation) c.sort.ensures.rising
 
@@ -22,5 +21,4 @@ pub returns-clause-orders : goal.returns-clause-orders
 returns-clause-orders g c =
     All-permutation (IsAtOrder (spans_of c.args.tree.rows.now)) c.ask.new.out.items c.sort.new.rows.items c.sort.ensures.permutation
     (subst (All (IsAtOrder (spans_of c.args.tree.rows.now))) (sym c.in_ok-ask.ensures.ok)
-    (found_orders (Over c.args.pick) c.args.start c.args.end (spans_of c.args.tree.rows.now) _
-    (index_each c.args.tree.rows.now c.args.tree.by_start.now c.args.tree.tops.now c.requires)))
+    (found_orders (Over c.args.pick) c.args.start c.args.end (spans_of c.args.tree.rows.now) _ (places_within _ _ c.ask.ensures.places)))

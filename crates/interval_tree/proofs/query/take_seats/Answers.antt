@@ -3,8 +3,8 @@ use Rattle.std.proofs.Common.{◌<◌, ◌++◌, length, get_or, [], ◌∷◌, 
 use Rattle.edit_base.specs.declared.rows.Pick.TheVariants as pick
 use Rattle.interval_tree.specs.declared.walk.Asked.TheVariants.{Over}
 use Rattle.span_table.specs.Table.{spans_of}
-use Rattle.interval_tree.specs.Walk.{found}
-use Rattle.interval_tree.proofs.WalkParts.{found_none}
+use Rattle.interval_tree.specs.Walk.{found, place_in}
+use Rattle.interval_tree.proofs.QueryRows.{found_none}
 use Rattle.interval_tree.proofs.QuerySeats.{at_ok, found_more, found_within, step_ok}
 use Rattle.interval_tree.proofs.query.take_seats.Goals as goal
 
@@ -19,13 +19,14 @@ loop-seat-init g c = record {
 pub loop-seat-preserved : goal.loop-seat-preserved
 loop-seat-preserved g c =
     let inside : c.loop-seat.seat-index < length c.args.seats.now = omega arith in
+    let place = place_in c.args.rows.now.slots in
     record {
       ok = step_ok c.take_seat-so_far.result c.loop-seat.so_far c.take_seat-so_far.ensures.so_far c.take_seat-so_far.ensures.ok c.loop-seat.invariant.ok
           (λ here there.
           here
           ∙ ap (λ rows. rows ++ found (Over pick.All) c.args.start c.args.end (spans_of c.args.rows.now)
-          (get_or c.args.seats.now c.loop-seat.seat-index 0 ∷ [])) there
-          ∙ sym (found_more (Over pick.All) c.args.start c.args.end (spans_of c.args.rows.now) c.args.seats.now c.loop-seat.seat-index inside));
+          (place (get_or c.args.seats.now c.loop-seat.seat-index 0) ∷ [])) there
+          ∙ sym (found_more (Over pick.All) c.args.start c.args.end (spans_of c.args.rows.now) place c.args.seats.now c.loop-seat.seat-index inside));
       ticks = omega (arith, c.take_seat-so_far.ensures.tick, c.loop-seat.invariant.ticks);
       room = λ fits.
           c.take_seat-so_far.ensures.room (c.loop-seat.invariant.room fits)
@@ -34,7 +35,7 @@ loop-seat-preserved g c =
             fits,
             c.loop-seat.invariant.capacity,
             inside,
-            found_within (Over pick.All) c.args.start c.args.end (spans_of c.args.rows.now) c.args.seats.now c.loop-seat.seat-index
+            found_within (Over pick.All) c.args.start c.args.end (spans_of c.args.rows.now) place c.args.seats.now c.loop-seat.seat-index
                 c.loop-seat.out.items (at_ok c.loop-seat.so_far c.loop-seat.invariant.ok (c.loop-seat.invariant.room fits)) inside,
           ));
       capacity = omega (arith, c.loop-seat.invariant.capacity, c.take_seat-so_far.ensures.capacity);

@@ -6,6 +6,7 @@ use Rattle.std.proofs.lemmas.List.Elements.{All-filter}
 use Rattle.edit_model.specs.Changed.{replaced_effect}
 use Rattle.edit_model.specs.Replaced.{emptied_spans, is_emptied, kept_spans, moved_span}
 use Rattle.edit_model.specs.Rows.{span_of}
+use Rattle.interval_tree.specs.Answers.{IsForward}
 use Rattle.moved_rows.specs.Moving.{IsSpanWithin}
 use Rattle.moved_rows.proofs.Landed.{all_within}
 use Rattle.span_table.specs.Table.{spans_of}
@@ -58,6 +59,15 @@ module _ (g : given.Over) (c : goal.After-attach_coming g) where
         length-spans_of c.move_spans.new.moved.rows,
       )
 
+-- no span ends before it starts
+pub drop_emptied-requires-clause-forward : goal.drop_emptied-requires-clause-forward
+drop_emptied-requires-clause-forward g c =
+    let asked = c.args.asked.now in
+    let spans = spans_of c.args.change.now.moved.rows in
+    let within = all_within (joined asked.text) spans c.requires.formed.spans in
+    subst (All IsForward) (sym (c.bring_gap.ensures.spans ∙ ap (λ moves. spans_of moves.rows) c.start.ensures.moved))
+    (λ k d below. (within k d below).ordered)
+
 -- what stands before the rows move lies in the text
 pub move_spans-requires-clause-over : goal.move_spans-requires-clause-over
 move_spans-requires-clause-over g c =
@@ -92,16 +102,19 @@ attach_coming-requires-clause-few g c =
 
 pub returns-clause-left : goal.returns-clause-left
 returns-clause-left g c =
+    let asked = c.args.asked.now in
+    let cut = c.new-cut.result in
+    let is = c.new-cut.ensures in
+    let spans = spans_of c.args.change.now.moved.rows in
+    let stayed = c.move_spans.ensures.spans ∙ cut_stays asked spans cut is.text is.brought is.start is.end is.grown _ (kept g c) in
     omega (
       arith,
-      ap (λ moves. length moves.rows.kept + moves.rows.spare) c.start.ensures.moved,
-      c.bring_gap.ensures.count,
+      ap (λ moves. moves.rows.spare) c.start.ensures.moved,
       c.bring_gap.ensures.spare,
       c.drop_emptied.ensures.spare,
       c.move_spans.ensures.spare,
       c.attach_coming.ensures.spare,
-      stays_long g c,
-      all_long g c,
+      ap length (cut_comes asked spans cut is.text is.brought is.start is.end is.grown _ stayed),
     )
 
 pub returns-clause-count : goal.returns-clause-count

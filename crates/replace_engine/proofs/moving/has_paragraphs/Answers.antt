@@ -2,7 +2,7 @@
 use Rattle.std.proofs.Common.{◌∙◌, ap, ltb, sym}
 use Rattle.std.specs.List.{list_any}
 use Rattle.edit_model.proofs.Tests.{list_any-map}
-use Rattle.interval_tree.specs.Kinds.{is_paragraph_row}
+use Rattle.row_kinds.specs.Kinds.{is_paragraph_row}
 use Rattle.span_changes.proofs.Lists.{any_counted}
 use Rattle.span_table.specs.Table.{seen}
 use Rattle.replace_engine.specs.Moved.{is_paragraph_span}

@@ -1,13 +1,11 @@
 -- Nothing is kept.
-use Rattle.std.proofs.Common.{ap, length, arith}
-use Rattle.interval_tree.proofs.IndexWhole.{nothing_whole}
+use Rattle.std.proofs.Common.{[], arith}
+use Rattle.interval_tree.proofs.IdsKept.{none_distinct}
+use Rattle.interval_tree.proofs.IndexLaws.{whole_of}
 use Rattle.interval_tree.proofs.index.SpanIndex.new.Goals as goal
 
 pub invariant_of-result : goal.invariant_of-result
 invariant_of-result c =
-    let none = ap length c.in_ok-rows.ensures.ok in
-    record {
-      whole = nothing_whole _ _ _ _ _ _ _ _ _ c.in_ok-rows.ensures.ok c.new-2.ensures.items c.new-3.ensures.items c.new-4.ensures.items
-          c.tally_of-tally.ensures.tally c.tally_of-tally.ensures.ahead;
-      places = record { by_start = omega (arith, none); over = omega (arith, none); by_id = omega (arith, none) };
-    }
+    let rows = c.in_ok-new.field-0 in
+    whole_of rows c.new-2.result c.new-3.result.by_start c.new-3.result.by_end _ _ _ [] [] c.in_ok-new.ensures.ok c.in_ok-new.ensures.slots
+    (c.new-3.ensures.orders rows.starts rows.ends) c.new-2.ensures.named none_distinct c.new-4.ensures.tally (omega arith) (omega arith)

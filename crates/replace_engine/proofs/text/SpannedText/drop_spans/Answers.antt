@@ -14,7 +14,7 @@ returns-clause-well_formed c =
 pub invariant_of-self : goal.invariant_of-self
 invariant_of-self c = record {
   formed = returns-clause-well_formed c;
-  room = room_kept c.self.inside.change c.drop_rows.new.change _ _ _ _ c.drop_rows.ensures.fewer c.drop_rows.ensures.rest c.drop_rows.ensures.lists
+  room = room_kept c.self.inside.change c.drop_rows.new.change _ _ _ _ c.drop_rows.ensures.fewer (omega arith) c.drop_rows.ensures.lists
       c.self.invariant.room;
   told = c.drop_rows.ensures.tells;
   place = c.drop_rows.ensures.gap.gap ∙ c.self.invariant.place;

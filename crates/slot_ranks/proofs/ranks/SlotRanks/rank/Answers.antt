@@ -1,5 +1,5 @@
 -- Past the last slot all live ones stand before it.
-use Rattle.std.proofs.Common.{◌≤◌, ap, length, sym, ◌∙◌, arith}
+use Rattle.std.proofs.Common.{◌≡◌, ◌≤◌, ap, length, sym, ◌∙◌, arith}
 use Rattle.slot_ranks.specs.Slots.{Slots, rank}
 use Rattle.slot_ranks.proofs.Below.{rank-zero, rank_past, ranks_rise}
 use Rattle.slot_ranks.proofs.ranks.SlotRanks.rank.Goals as goal

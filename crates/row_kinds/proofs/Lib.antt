@@ -1,0 +1,2 @@
+pub mod KindChanges
+pub mod KindSlots

@@ -1,0 +1,6 @@
+//! Which rows are of the kinds that are looked for apart.
+#![tactic(auto)]
+
+mod tally;
+
+pub use tally::Tally;
